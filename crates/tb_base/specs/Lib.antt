@@ -1,0 +1,4 @@
+pub mod Growth
+pub mod Outside
+pub mod Memory
+pub mod MemoryTold
