@@ -1,0 +1,5 @@
+pub mod Ends
+pub mod PrintingLaws
+pub mod ReportLaws
+pub mod StageLaws
+pub mod TellingLaws

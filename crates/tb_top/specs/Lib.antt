@@ -1,0 +1,6 @@
+pub mod Words
+pub mod Report
+pub mod Told
+pub mod Output
+pub mod Reading
+pub mod Stages

@@ -1,0 +1,91 @@
+ghost use Rattle.std.specs.Prelude.{◌≡◌};
+
+use crate::read::ReadError;
+use tb_parse::SmallError;
+use tb_perm::Code;
+
+/// Why a call ends without finishing.
+#[derive(Clone, Copy, Debug, PartialEq, Eq)]
+pub enum Halt {
+    /// The words name no file.
+    Usage,
+    /// The source is refused.
+    Refused(Code),
+    /// A read of the file failed.
+    ReadFault,
+    /// A write to the output failed.
+    WriteFault,
+    /// Memory ran out.
+    Memory,
+}
+
+impl Halt {
+    ghost use Rattle.tb_top.specs.Report.{line_of, status_of, cut_status_of};
+
+    /// The report: one line with its end.
+    pub fn line(self) -> &'static [u8]
+        ensures { result.now ≡ line_of self }
+    {
+        match self {
+            Halt::Usage => b"usage: tbmiri FILE\n",
+            Halt::Refused(Code::S2) => b"refused S2: source too long\n",
+            Halt::Refused(Code::U1) => b"refused U1: not built yet at 1:1-1:1\n",
+            Halt::ReadFault => b"read fault\n",
+            Halt::WriteFault => b"write fault\n",
+            Halt::Memory => b"out of memory\n",
+        }
+    }
+
+    /// The status of the program after this report.
+    pub fn status(self) -> u8
+        ensures { result ≡ status_of self }
+    {
+        match self {
+            Halt::Refused(_) => 2,
+            Halt::ReadFault => 6,
+            Halt::WriteFault => 7,
+            Halt::Memory => 8,
+            Halt::Usage => 9,
+        }
+    }
+
+    /// The status of the program where this report could not be put: that of a failed write, except
+    /// that want of memory keeps its own.
+    pub fn cut_status(self) -> u8
+        ensures { result ≡ cut_status_of self }
+    {
+        match self {
+            Halt::Memory => 8,
+            _ => 7,
+        }
+    }
+}
+
+impl From<ReadError> for Halt {
+    ghost use Rattle.std.specs.Prelude.{◌≡◌};
+    ghost use Rattle.tb_top.specs.Report.{halt_of_read};
+
+    ghost from_gives = { λ error why. why ≡ halt_of_read error };
+
+    fn from(error: ReadError) -> Halt {
+        match error {
+            ReadError::TooLong => Halt::Refused(Code::S2),
+            ReadError::Fault => Halt::ReadFault,
+            ReadError::Memory => Halt::Memory,
+        }
+    }
+}
+
+impl From<SmallError> for Halt {
+    ghost use Rattle.std.specs.Prelude.{◌≡◌};
+    ghost use Rattle.tb_top.specs.Report.{halt_of_parse};
+
+    ghost from_gives = { λ error why. why ≡ halt_of_parse error };
+
+    fn from(error: SmallError) -> Halt {
+        match error {
+            SmallError::NotBuilt => Halt::Refused(Code::U1),
+            SmallError::Memory => Halt::Memory,
+        }
+    }
+}
