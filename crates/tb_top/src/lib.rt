@@ -7,6 +7,8 @@ mod halt;
 mod read;
 mod report;
 mod run;
+#[cfg(test)]
+mod tests;
 mod words;
 
 pub use call::{Status, tbmiri};
