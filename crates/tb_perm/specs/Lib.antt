@@ -1,0 +1,13 @@
+pub mod Table
+pub mod Marked
+pub mod Covers
+pub mod Entries
+pub mod Rows
+pub mod Tree
+pub mod Event
+pub mod Choice
+pub mod Access
+pub mod Reborrow
+pub mod Release
+pub mod Deallocation
+pub mod Answer
