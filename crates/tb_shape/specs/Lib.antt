@@ -1,0 +1,4 @@
+pub mod Tree
+pub mod Entries
+pub mod Nodes
+pub mod Shape
