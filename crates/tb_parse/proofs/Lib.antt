@@ -1,6 +1,12 @@
 pub mod Options
 pub mod Tokens
 pub mod Many
+pub mod Bytes
+pub mod Scopes
+pub mod Counts
+pub mod Nexts
 pub mod Literals
-pub mod Prints
+pub mod Atoms
+pub mod Additions
+pub mod Bodies
 pub mod Sources

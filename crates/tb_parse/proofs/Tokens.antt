@@ -5,7 +5,9 @@ use Rattle.std.proofs.lemmas.Bool.Decides.{eqb_tells}
 use Rattle.std.specs.Prelude.{MatchOption}
 use Rattle.std.specs.Option.{option_copied}
 use Rattle.std.proofs.Common.{Bor}
-use Rattle.tb_parse.specs.Words.{is_space, after_space, is_apart, Token, Begins, Reads}
+use Rattle.std.proofs.Common.{◌-◌}
+use Rattle.tb_parse.specs.Words.{is_space, after_space, is_apart, Exactly, Token, Begins, Reads}
+use Rattle.tb_parse.specs.Grammar.{token, opening, closing}
 use Rattle.tb_parse.specs.Reading.{◌>>=◌, strip, eat}
 use Rattle.tb_parse.proofs.Options.{bind_some, kept, some_is}
 
@@ -49,9 +51,26 @@ strip-none (expected ∷ word) (byte ∷ text) never =
       | inr differ ↦ rw differ.0 refl
     ]
 
--- a token that stands next is read
-pub token-again : (size : ℕ) (text : List ℕ) (token : Token) (rest : List ℕ) → Begins size text token rest → eat token.word text ≡ Some rest
-token-again size text token rest h = eat-again token.word text rest h.bytes h.apart
+-- a token that is spelled by these bytes
+pub exactly : (size : ℕ) (text word : List ℕ) (lo hi : Option ℕ) (rest : List ℕ) → Begins size text (record { spelling = Exactly word; lo = lo; hi = hi }) rest → (after_space text ≡ word ++ rest) × (is_apart word rest ≡ true)
+exactly size text word lo hi rest h =
+    let at : List ℕ → Type 0 = λ w. (after_space text ≡ w ++ rest) × (is_apart w rest ≡ true) in
+    subst at h.spelled (h.bytes, h.apart)
+
+-- such a token that stands next is read
+pub token-again : (size : ℕ) (text word : List ℕ) (lo hi : Option ℕ) (rest : List ℕ) → Begins size text (record { spelling = Exactly word; lo = lo; hi = hi }) rest → eat word text ≡ Some rest
+token-again size text word lo hi rest h = let e = exactly size text word lo hi rest h in eat-again word text rest e.0 e.1
+
+-- a word that is read is a token whose place nobody names
+pub token-takes : (size : ℕ) (word text rest : List ℕ) → eat word text ≡ Some rest → Begins size text (token word) rest
+token-takes size word text rest e = let h = eat-takes word text rest e in record { word = word; spelled = refl; bytes = h.0; apart = h.1; lo = tt; hi = tt }
+
+-- and a token that begins where it begins, or ends where it ends
+pub opening-takes : (size : ℕ) (word text rest : List ℕ) → eat word text ≡ Some rest → Begins size text (opening (size - length (after_space text)) word) rest
+opening-takes size word text rest e = let h = eat-takes word text rest e in record { word = word; spelled = refl; bytes = h.0; apart = h.1; lo = refl; hi = tt }
+
+pub closing-takes : (size : ℕ) (word text rest : List ℕ) → eat word text ≡ Some rest → Begins size text (closing word (size - length rest)) rest
+closing-takes size word text rest e = let h = eat-takes word text rest e in record { word = word; spelled = refl; bytes = h.0; apart = h.1; lo = tt; hi = refl }
 
 -- one run of tokens and then another
 pub reads-then : (size : ℕ) (tokens more : List Token) (text mid rest : List ℕ) → Reads size text tokens mid → Reads size mid more rest → Reads size text (tokens ++ more) rest
@@ -72,10 +91,24 @@ after_space-shrinks (byte ∷ text) = elim (is_space byte) as (λ b. length (con
 ]
 
 -- a token of at least one byte leaves less of the text
-pub token-shorter : (size : ℕ) (text : List ℕ) (token : Token) (rest : List ℕ) → 0 < length token.word → Begins size text token rest → length rest < length text
-token-shorter size text token rest some h =
+pub token-shorter : (size : ℕ) (text : List ℕ) (token : Token) (rest : List ℕ) (h : Begins size text token rest) → 0 < length h.word → length rest < length text
+token-shorter size text token rest h some =
     let a = after_space-shrinks text in
-    let b : length (after_space text) ≡ length token.word + length rest = ap length h.bytes ∙ length-append token.word rest in
+    let b : length (after_space text) ≡ length h.word + length rest = ap length h.bytes ∙ length-append h.word rest in
+    omega arith
+
+-- and any token leaves no more
+pub token-shrinks : (size : ℕ) (text : List ℕ) (token : Token) (rest : List ℕ) → Begins size text token rest → length rest ≤ length text
+token-shrinks size text token rest h =
+    let a = after_space-shrinks text in
+    let b : length (after_space text) ≡ length h.word + length rest = ap length h.bytes ∙ length-append h.word rest in
+    omega arith
+
+pub reads-shrinks : (size : ℕ) (tokens : List Token) (text rest : List ℕ) → Reads size text tokens rest → length rest ≤ length text
+reads-shrinks size [] text rest h = rw h (omega arith)
+reads-shrinks size (token ∷ tokens) text rest h =
+    let first = token-shrinks size text token h.0 h.1 in
+    let others = reads-shrinks size tokens h.0 rest h.2 in
     omega arith
 
 -- what `strip_prefix` answers

@@ -7,9 +7,8 @@ ghost use Rattle.tb_parse.specs.Reading.{Gives, small_at};
 use crate::error::SmallError;
 use crate::statements::statements_at;
 use crate::tree::{Block, SmallTree};
-use crate::words::{after_space, eat, offset};
+use crate::words::{after_space, eat, span_of};
 use std::alloc::Global;
-use tb_perm::Span;
 
 #[tactic(auto, unfolding(crate::specs::Reading::small_at))]
 fn file_at(alloc: Global, text: &[u8]) -> Result<SmallTree, SmallError>
@@ -27,26 +26,26 @@ fn file_at(alloc: Global, text: &[u8]) -> Result<SmallTree, SmallError>
     if !after_space(rest).is_empty() {
         return Err(SmallError::NotBuilt);
     }
-    let hi = offset(size, rest);
-    let function = Span {
-        lo: offset(size, after_space(text)),
-        hi,
-    };
-    let span = Span {
-        lo: offset(size, after_space(block)),
-        hi,
-    };
+    let function = span_of(size, text, rest);
+    let span = span_of(size, block, rest);
     Ok(SmallTree {
         function,
         body: Block { span, statements },
     })
 }
 
-/// Reads a source: a function `main` whose statements print texts.
+/// Reads a source: a function `main` with variables, sums and prints.
 ///
-/// White space is spaces and line feeds, and there are no comments. A text has the bytes from 20 to
-/// 7E (hexadecimal), apart from quotes, backslashes and braces, and the escape `\n`. What has another
-/// form is not built yet.
+/// Tokens stand apart by spaces and line feeds alone; comments are not read yet. Between the quotes of
+/// a text stand printable ASCII bytes other than `"`, `\`, `{` and `}`, the escape `\n`, and one `{}`
+/// for each argument. A variable is the newest `let` of its name, and may be assigned where that has
+/// `mut`. Literals are decimal `i32`s, a sum has up to 64 atoms, and the function up to 4,096 locals:
+/// one for its result, one for each `let`, and a temporary for each variable that a sum reads and for
+/// each `+`.
+///
+/// # Errors
+///
+/// `NotBuilt` where no tree has this text, and `Memory` where the allocator has no room.
 pub fn small(alloc: Global, text: &[u8]) -> Result<SmallTree, SmallError>
     requires { length text.now ≤ 1048576 }
     ensures tree { IfOk result (λ tree. IsSmall text.now tree) }

@@ -3,14 +3,19 @@
 
 mod error;
 mod file;
+mod limits;
+mod scope;
 mod statements;
+mod sums;
 mod texts;
 mod tree;
 mod words;
 
 pub use error::SmallError;
 pub use file::small;
-pub use tree::{Block, Print, SmallTree, Statement, Text};
+pub use tree::{
+    Assign, Atom, Block, Int, Let, Name, Print, SmallTree, Statement, Sum, Text, Variable,
+};
 
 #[cfg(test)]
 mod tests;

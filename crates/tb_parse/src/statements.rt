@@ -1,55 +1,181 @@
 //! Statements.
 
 ghost use Rattle.std.specs.Prelude.{◌≡◌, ◌≤◌, length};
-ghost use Rattle.tb_parse.specs.Reading.{Gives, closes, print_at, statement_at, statements_at};
+ghost use Rattle.tb_parse.specs.Reading.{Gives, mut_at, let_at, target_at, assign_at, print_at, is_call, statement_at, closes, statements_at};
 
 use crate::error::SmallError;
-use crate::texts::{begins_with, text_at};
-use crate::tree::{Print, Statement};
-use crate::words::{after_space, eat, offset};
+use crate::limits::plus_statement;
+use crate::scope::{Known, bind, is_mutable};
+use crate::sums::{arguments_at, sum_at, variable_at};
+use crate::texts::text_at;
+use crate::tree::{Assign, Let, Name, Print, Statement, Variable};
+use crate::words::{eat, has_byte, has_word, name_at, next_word, span_of};
 use sqlite_items::Items;
 use std::alloc::Global;
-use tb_perm::Span;
 
-/// The call of `print!` that comes next, and what follows its semicolon.
-#[tactic(auto, unfolding(crate::specs::Reading::print_at))]
-fn print_at(alloc: Global, size: usize, text: &[u8]) -> Result<(Print, &[u8]), SmallError>
-    requires { size ≤ 1048576 }
-    ensures { Gives (λ x. (x.0, x.1.now)) result (print_at size text.now) }
+/// Whether `mut` comes next, and what follows it.
+#[tactic(auto, unfolding(crate::specs::Reading::mut_at))]
+fn mut_at(text: &[u8]) -> Result<(bool, &[u8]), SmallError>
+    ensures { Gives (λ x. (x.0, x.1.now)) result (mut_at text.now) }
 {
-    let name = eat(b"print", text)?;
-    let bang = eat(b"!", name)?;
-    let paren = eat(b"(", bang)?;
-    let (literal, close) = text_at(alloc, size, paren)?;
-    let semicolon = eat(b")", close)?;
+    if has_word(b"mut", text) {
+        let rest = eat(b"mut", text)?;
+        Ok((true, rest))
+    } else {
+        Ok((false, text))
+    }
+}
+
+/// The `let` that comes next, and what follows its semicolon.
+#[tactic(auto, unfolding(crate::specs::Reading::let_at))]
+fn let_at<'a>(
+    alloc: Global,
+    scope: &[Known],
+    size: usize,
+    text: &'a [u8],
+) -> Result<(Let, &'a [u8]), SmallError>
+    requires size { size ≤ 1048576 }
+    requires room { length scope.now ≤ 4096 }
+    ensures { Gives (λ x. (x.0, x.1.now)) result (let_at scope.now size text.now) }
+{
+    let keyword = eat(b"let", text)?;
+    let (mutable, front) = mut_at(keyword)?;
+    let (word, after) = name_at(front)?;
+    let equals = eat(b"=", after)?;
+    let (value, semicolon) = sum_at(alloc, scope, size, equals)?;
     let rest = eat(b";", semicolon)?;
-    let span = Span {
-        lo: offset(size, after_space(text)),
-        hi: offset(size, rest),
+    let bytes = Items::from_slice(alloc, word).map_err(|_| SmallError::Memory)?;
+    let name = Name {
+        span: span_of(size, front, after),
+        bytes,
     };
+    let span = span_of(size, text, rest);
     Ok((
-        Print {
+        Let {
             span,
-            text: literal,
+            mutable,
+            name,
+            value,
         },
         rest,
     ))
 }
 
+/// The variable with `mut` that comes next, and what follows it.
+#[tactic(auto, unfolding(crate::specs::Reading::target_at))]
+fn target_at<'a>(
+    scope: &[Known],
+    size: usize,
+    text: &'a [u8],
+) -> Result<(Variable, &'a [u8]), SmallError>
+    requires size { size ≤ 1048576 }
+    requires room { length scope.now ≤ 4096 }
+    ensures { Gives (λ x. (x.0, x.1.now)) result (target_at scope.now size text.now) }
+{
+    let (target, rest) = variable_at(scope, size, text)?;
+    if is_mutable(scope, target.number) {
+        Ok((target, rest))
+    } else {
+        Err(SmallError::NotBuilt)
+    }
+}
+
+/// The assignment that comes next, and what follows its semicolon.
+#[tactic(auto, unfolding(crate::specs::Reading::assign_at))]
+fn assign_at<'a>(
+    alloc: Global,
+    scope: &[Known],
+    size: usize,
+    text: &'a [u8],
+) -> Result<(Assign, &'a [u8]), SmallError>
+    requires size { size ≤ 1048576 }
+    requires room { length scope.now ≤ 4096 }
+    ensures { Gives (λ x. (x.0, x.1.now)) result (assign_at scope.now size text.now) }
+{
+    let (target, after) = target_at(scope, size, text)?;
+    let equals = eat(b"=", after)?;
+    let (value, semicolon) = sum_at(alloc, scope, size, equals)?;
+    let rest = eat(b";", semicolon)?;
+    let span = span_of(size, text, rest);
+    Ok((
+        Assign {
+            span,
+            target,
+            value,
+        },
+        rest,
+    ))
+}
+
+/// The call of `print!` that comes next, and what follows its semicolon.
+#[tactic(auto, unfolding(crate::specs::Reading::print_at))]
+fn print_at<'a>(
+    alloc: Global,
+    scope: &[Known],
+    size: usize,
+    text: &'a [u8],
+) -> Result<(Print, &'a [u8]), SmallError>
+    requires size { size ≤ 1048576 }
+    requires room { length scope.now ≤ 4096 }
+    ensures { Gives (λ x. (x.0, x.1.now)) result (print_at scope.now size text.now) }
+{
+    let name = eat(b"print", text)?;
+    let bang = eat(b"!", name)?;
+    let paren = eat(b"(", bang)?;
+    let (literal, holes, after) = text_at(alloc, size, paren)?;
+    let (arguments, close) = arguments_at(alloc, scope, size, after)?;
+    let semicolon = eat(b")", close)?;
+    let rest = eat(b";", semicolon)?;
+    if arguments.len() != holes {
+        return Err(SmallError::NotBuilt);
+    }
+    let span = span_of(size, text, rest);
+    Ok((
+        Print {
+            span,
+            text: literal,
+            arguments,
+        },
+        rest,
+    ))
+}
+
+/// Whether a word with `!` behind it comes next.
+fn is_call(text: &[u8]) -> bool
+    ensures { result ≡ is_call text.now }
+{
+    let (_, rest) = next_word(text);
+    has_byte(b'!', rest)
+}
+
 /// The statement that comes next, and what follows it.
 #[tactic(auto, unfolding(crate::specs::Reading::statement_at))]
-fn statement_at(alloc: Global, size: usize, text: &[u8]) -> Result<(Statement, &[u8]), SmallError>
-    requires { size ≤ 1048576 }
-    ensures { Gives (λ x. (x.0, x.1.now)) result (statement_at size text.now) }
+fn statement_at<'a>(
+    alloc: Global,
+    scope: &[Known],
+    size: usize,
+    text: &'a [u8],
+) -> Result<(Statement, &'a [u8]), SmallError>
+    requires size { size ≤ 1048576 }
+    requires room { length scope.now ≤ 4096 }
+    ensures { Gives (λ x. (x.0, x.1.now)) result (statement_at scope.now size text.now) }
 {
-    let (print, rest) = print_at(alloc, size, text)?;
-    Ok((Statement::Print(print), rest))
+    if has_word(b"let", text) {
+        let (binding, rest) = let_at(alloc, scope, size, text)?;
+        return Ok((Statement::Let(binding), rest));
+    }
+    if is_call(text) {
+        let (print, rest) = print_at(alloc, scope, size, text)?;
+        return Ok((Statement::Print(print), rest));
+    }
+    let (assign, rest) = assign_at(alloc, scope, size, text)?;
+    Ok((Statement::Assign(assign), rest))
 }
 
 fn closes(text: &[u8]) -> bool
     ensures { result ≡ closes text.now }
 {
-    begins_with(b'}', after_space(text))
+    has_byte(b'}', text)
 }
 
 /// The statements up to the brace that closes them, and the text from there on.
@@ -63,12 +189,16 @@ pub fn statements_at(
     ensures { Gives (λ x. (x.0, x.1.now)) result (statements_at size text.now) }
 {
     let mut statements = Items::new(alloc);
+    let mut scope = Vec::new(alloc);
+    let mut locals = 1;
     let mut rest = text;
     for _ in 0..text.len() {
         if closes(rest) {
             return Ok((statements, rest));
         }
-        let (statement, after) = statement_at(alloc, size, rest)?;
+        let (statement, after) = statement_at(alloc, scope.as_slice(), size, rest)?;
+        locals = plus_statement(locals, &statement)?;
+        bind(alloc, &mut scope, &statement)?;
         statements.push(statement).map_err(|_| SmallError::Memory)?;
         rest = after;
     }

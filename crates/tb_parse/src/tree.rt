@@ -21,7 +21,36 @@ pub struct Block {
 /// One step of a block.
 #[derive(Debug, Drop)]
 pub enum Statement {
+    Let(Let),
+    Assign(Assign),
     Print(Print),
+}
+
+/// A new variable, and its first value.
+#[derive(Debug, Drop)]
+pub struct Let {
+    /// From `let` to the semicolon.
+    pub span: Span,
+    /// Whether the variable has `mut`.
+    pub mutable: bool,
+    pub name: Name,
+    pub value: Sum,
+}
+
+/// A name that a variable is given.
+#[derive(Debug, Drop)]
+pub struct Name {
+    pub span: Span,
+    pub bytes: Items<u8>,
+}
+
+/// A new value for a variable with `mut`.
+#[derive(Debug, Drop)]
+pub struct Assign {
+    /// From the variable to the semicolon.
+    pub span: Span,
+    pub target: Variable,
+    pub value: Sum,
 }
 
 /// A call of `print!`.
@@ -30,6 +59,8 @@ pub struct Print {
     /// From `print` to the semicolon.
     pub span: Span,
     pub text: Text,
+    /// One for each `{}` of the text, in its order.
+    pub arguments: Items<Sum>,
 }
 
 /// A text in quotes.
@@ -37,6 +68,37 @@ pub struct Print {
 pub struct Text {
     /// With its quotes.
     pub span: Span,
-    /// The bytes that it stands for: each escape as the byte that it means.
-    pub bytes: Items<u8>,
+    /// What stands between the quotes, as it is written.
+    pub source: Items<u8>,
+}
+
+/// Atoms with `+` between them.
+#[derive(Debug, Drop)]
+pub struct Sum {
+    pub first: Atom,
+    /// At most 63, in the order of the text.
+    pub rest: Items<Atom>,
+}
+
+/// A literal or a variable.
+#[derive(Clone, Copy, Debug, PartialEq, Eq)]
+pub enum Atom {
+    Int(Int),
+    Variable(Variable),
+}
+
+/// A literal.
+#[derive(Clone, Copy, Debug, PartialEq, Eq)]
+pub struct Int {
+    pub span: Span,
+    /// At most 2,147,483,647.
+    pub value: u32,
+}
+
+/// A mention of a variable.
+#[derive(Clone, Copy, Debug, PartialEq, Eq)]
+pub struct Variable {
+    pub span: Span,
+    /// The number of its `let`, counted from 0 in the order of the text.
+    pub number: u32,
 }

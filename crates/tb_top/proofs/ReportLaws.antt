@@ -16,6 +16,8 @@ line_front why old new before now status (inr cut) = cut.front
 -- the status of want of memory is no other's
 memory_of : (why : Halt) → status_of why ≡ 8 → why ≡ halt.Memory
 memory_of (halt.Refused c) e = absurd (omega arith)
+memory_of (halt.Undefined report) e = absurd (omega arith)
+memory_of (halt.Panic report) e = absurd (omega arith)
 memory_of halt.ReadFault e = absurd (omega arith)
 memory_of halt.WriteFault e = absurd (omega arith)
 memory_of halt.Memory e = refl
@@ -23,6 +25,8 @@ memory_of halt.Usage e = absurd (omega arith)
 
 memory_of_cut : (why : Halt) → cut_status_of why ≡ 8 → why ≡ halt.Memory
 memory_of_cut (halt.Refused c) e = absurd (omega arith)
+memory_of_cut (halt.Undefined report) e = absurd (omega arith)
+memory_of_cut (halt.Panic report) e = absurd (omega arith)
 memory_of_cut halt.ReadFault e = absurd (omega arith)
 memory_of_cut halt.WriteFault e = absurd (omega arith)
 memory_of_cut halt.Memory e = refl
@@ -44,6 +48,12 @@ fault_line : (why : Halt) (old new : Option (List ℕ)) → (status_of why ≡ 6
 fault_line (halt.Refused c) old new (inl e) front = absurd (omega arith)
 fault_line (halt.Refused c) old new (inr (inl e)) front = absurd (omega arith)
 fault_line (halt.Refused c) old new (inr (inr e)) front = absurd (omega arith)
+fault_line (halt.Undefined report) old new (inl e) front = absurd (omega arith)
+fault_line (halt.Undefined report) old new (inr (inl e)) front = absurd (omega arith)
+fault_line (halt.Undefined report) old new (inr (inr e)) front = absurd (omega arith)
+fault_line (halt.Panic report) old new (inl e) front = absurd (omega arith)
+fault_line (halt.Panic report) old new (inr (inl e)) front = absurd (omega arith)
+fault_line (halt.Panic report) old new (inr (inr e)) front = absurd (omega arith)
 fault_line halt.ReadFault old new is front = inl front
 fault_line halt.WriteFault old new is front = inr (inl front)
 fault_line halt.Memory old new is front = inr (inr front)

@@ -3,4 +3,5 @@ pub mod Report
 pub mod Told
 pub mod Output
 pub mod Reading
+pub mod Conclusion
 pub mod Stages

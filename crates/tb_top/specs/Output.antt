@@ -1,11 +1,14 @@
 -- What a call puts out and answers where nothing fails.
 use Rattle.std.specs.Prelude.{◌≡◌, ◌<◌, ◌≤◌, ◌⊎◌, ℕ, List, [], length, Option, Some, None, IsSome}
-use Rattle.std.specs.List.{flat_map}
 use Rattle.tb_base.specs.Growth.{GrewByPrefix}
 use Rattle.tb_base.specs.Outside.{FilesTold, bytes_under}
+use Rattle.tb_diag.specs.Report.{report_of}
+use Rattle.tb_eval.specs.Run.{Run, whole_run}
+use Rattle.tb_eval.specs.declared.outcome.Outcome.{Outcome}
+use Rattle.tb_eval.specs.declared.outcome.Outcome.TheVariants.{Finished, Undefined, Panic, StepLimit, WriteFault, Memory}
+use Rattle.tb_lower.specs.Lowering.{Realises}
+use Rattle.tb_mir.specs.declared.mir.Mir.{Mir}
 use Rattle.tb_parse.specs.declared.tree.SmallTree.{SmallTree}
-use Rattle.tb_parse.specs.declared.tree.Statement.{Statement}
-use Rattle.tb_parse.specs.declared.tree.Statement.TheVariants as statement
 use Rattle.tb_parse.specs.Grammar.{IsSmall}
 use Rattle.tb_perm.specs.declared.code.Code.TheVariants as code
 use Rattle.tb_top.specs.declared.halt.Halt.{Halt}
@@ -17,14 +20,6 @@ use Rattle.tb_top.specs.Words.{file_of}
 abbrev pub longest : ℕ
 longest = 1048576
 
--- what a statement puts
-abbrev pub put_by : Statement → List ℕ
-put_by (statement.Print print) = print.text.bytes
-
--- what the statements of a source put, in order
-abbrev pub printed : SmallTree → List ℕ
-printed tree = flat_map put_by tree.body.statements
-
 -- the bytes for the output and for the report, and the status
 pub record Output : Type 0 where
   pub out : List ℕ
@@ -35,9 +30,18 @@ pub record Output : Type 0 where
 abbrev pub halted : Halt → Output
 halted why = record { out = []; err = line_of why; status = status_of why }
 
--- a call that finishes
-abbrev pub finished : List ℕ → Output
-finished out = record { out = out; err = []; status = 0 }
+-- the status of a run that ended so
+abbrev pub status_of_end : Outcome → ℕ
+status_of_end Finished = 0
+status_of_end (Undefined stop span) = 1
+status_of_end (Panic panic span) = 3
+status_of_end StepLimit = 4
+status_of_end WriteFault = 7
+status_of_end Memory = 8
+
+-- a call whose source ran: what it printed, and the report and the status of its end
+abbrev pub ran : List ℕ → Run → Output
+ran source run = record { out = run.printed; err = report_of source run.end; status = status_of_end run.end }
 
 -- the words name a file, and these are its bytes
 pub record IsSource (words : List (List ℕ)) (told : Option FilesTold) (source : List ℕ) : Type 0 where
@@ -52,7 +56,7 @@ pub data IsOutput (words : List (List ℕ)) (told : Option FilesTold) : Output �
   Usage : file_of words ≡ None → IsOutput words told (halted halt.Usage)
   TooLong : (source : List ℕ) → IsSource words told source → longest < length source → IsOutput words told (halted (halt.Refused code.S2))
   NotBuilt : (source : List ℕ) → IsSource words told source → length source ≤ longest → ((tree : SmallTree) → IsSmall source tree → ⊥) → IsOutput words told (halted (halt.Refused code.U1))
-  Finished : (source : List ℕ) → IsSource words told source → length source ≤ longest → (tree : SmallTree) → IsSmall source tree → IsOutput words told (finished (printed tree))
+  Ran : (source : List ℕ) → IsSource words told source → length source ≤ longest → (tree : SmallTree) → IsSmall source tree → (mir : Mir) → Realises tree mir → IsOutput words told (ran source (whole_run mir))
 
 -- the words name no file, or the files tell what they hold
 abbrev pub Tells : List (List ℕ) → Option FilesTold → Type 0

@@ -14,12 +14,16 @@ abbrev pub line_of : Halt → List ℕ
 line_of halt.Usage = codes "usage: tbmiri FILE\n"
 line_of (halt.Refused code.S2) = codes "refused S2: source too long\n"
 line_of (halt.Refused code.U1) = codes "refused U1: not built yet at 1:1-1:1\n"
+line_of (halt.Undefined report) = report
+line_of (halt.Panic report) = report
 line_of halt.ReadFault = codes "read fault\n"
 line_of halt.WriteFault = codes "write fault\n"
 line_of halt.Memory = codes "out of memory\n"
 
 abbrev pub status_of : Halt → ℕ
+status_of (halt.Undefined report) = 1
 status_of (halt.Refused why) = 2
+status_of (halt.Panic report) = 3
 status_of halt.ReadFault = 6
 status_of halt.WriteFault = 7
 status_of halt.Memory = 8
@@ -27,7 +31,9 @@ status_of halt.Usage = 9
 
 -- the status where the report itself could not be put
 abbrev pub cut_status_of : Halt → ℕ
+cut_status_of (halt.Undefined report) = 7
 cut_status_of (halt.Refused why) = 7
+cut_status_of (halt.Panic report) = 7
 cut_status_of halt.ReadFault = 7
 cut_status_of halt.WriteFault = 7
 cut_status_of halt.Memory = 8

@@ -70,6 +70,6 @@ pub fn tbmiri<F: Files, I: Source, O: Sink, E: Sink>(
 {
     match run(alloc, words, files, out) {
         Ok(()) => Status(0),
-        Err(why) => report(err, why),
+        Err(why) => report(err, &why),
     }
 }

@@ -1,16 +1,21 @@
 ghost use Rattle.std.specs.Prelude.{◌≡◌};
 
 use crate::read::ReadError;
+use sqlite_items::Items;
 use tb_parse::SmallError;
 use tb_perm::Code;
 
 /// Why a call ends without finishing.
-#[derive(Clone, Copy, Debug, PartialEq, Eq)]
+#[derive(Debug, Drop)]
 pub enum Halt {
     /// The words name no file.
     Usage,
     /// The source is refused.
     Refused(Code),
+    /// The run is undefined behaviour, with this report.
+    Undefined(Items<u8>),
+    /// The run panics, with this report.
+    Panic(Items<u8>),
     /// A read of the file failed.
     ReadFault,
     /// A write to the output failed.
@@ -23,13 +28,14 @@ impl Halt {
     ghost use Rattle.tb_top.specs.Report.{line_of, status_of, cut_status_of};
 
     /// The report: one line with its end.
-    pub fn line(self) -> &'static [u8]
-        ensures { result.now ≡ line_of self }
+    pub fn line(&self) -> &[u8]
+        ensures { result.now ≡ line_of self.now }
     {
         match self {
             Halt::Usage => b"usage: tbmiri FILE\n",
             Halt::Refused(Code::S2) => b"refused S2: source too long\n",
             Halt::Refused(Code::U1) => b"refused U1: not built yet at 1:1-1:1\n",
+            Halt::Undefined(report) | Halt::Panic(report) => report.as_slice(),
             Halt::ReadFault => b"read fault\n",
             Halt::WriteFault => b"write fault\n",
             Halt::Memory => b"out of memory\n",
@@ -37,11 +43,13 @@ impl Halt {
     }
 
     /// The status of the program after this report.
-    pub fn status(self) -> u8
-        ensures { result ≡ status_of self }
+    pub fn status(&self) -> u8
+        ensures { result ≡ status_of self.now }
     {
         match self {
+            Halt::Undefined(_) => 1,
             Halt::Refused(_) => 2,
+            Halt::Panic(_) => 3,
             Halt::ReadFault => 6,
             Halt::WriteFault => 7,
             Halt::Memory => 8,
@@ -51,8 +59,8 @@ impl Halt {
 
     /// The status of the program where this report could not be put: that of a failed write, except
     /// that want of memory keeps its own.
-    pub fn cut_status(self) -> u8
-        ensures { result ≡ cut_status_of self }
+    pub fn cut_status(&self) -> u8
+        ensures { result ≡ cut_status_of self.now }
     {
         match self {
             Halt::Memory => 8,
@@ -87,5 +95,27 @@ impl From<SmallError> for Halt {
             SmallError::NotBuilt => Halt::Refused(Code::U1),
             SmallError::Memory => Halt::Memory,
         }
+    }
+}
+
+impl From<tb_lower::Memory> for Halt {
+    ghost use Rattle.std.specs.Prelude.{◌≡◌};
+    ghost use Rattle.tb_top.specs.declared.halt.Halt.TheVariants.{Memory};
+
+    ghost from_gives = { λ _ why. why ≡ Memory };
+
+    fn from(_: tb_lower::Memory) -> Halt {
+        Halt::Memory
+    }
+}
+
+impl From<tb_run::Memory> for Halt {
+    ghost use Rattle.std.specs.Prelude.{◌≡◌};
+    ghost use Rattle.tb_top.specs.declared.halt.Halt.TheVariants.{Memory};
+
+    ghost from_gives = { λ _ why. why ≡ Memory };
+
+    fn from(_: tb_run::Memory) -> Halt {
+        Halt::Memory
     }
 }

@@ -7,8 +7,9 @@ mod halt;
 mod read;
 mod report;
 mod run;
-#[cfg(test)]
-mod tests;
 mod words;
 
 pub use call::{Status, tbmiri};
+
+#[cfg(test)]
+mod tests;

@@ -1,43 +1,55 @@
-//! A call up to its report: reads the file that the words name, and puts out what its prints put.
-ghost use Rattle.std.specs.Prelude.{◌≡◌, ◌<◌, ◌-◌, ◌^◌, map, string_bytes, OnOk, OnErr};
-ghost use Rattle.std.specs.List.{flat_map};
-ghost use Rattle.tb_base.specs.Growth.{Grew, GrewByPrefix};
-ghost use Rattle.tb_top.specs.Output.{put_by};
+//! A call up to its report: reads the source that the words name, lowers it and runs it.
+ghost use Rattle.std.specs.Prelude.{◌≡◌, ◌≢◌, ◌<◌, ◌≤◌, ◌-◌, ◌^◌, length, map, string_bytes};
+ghost use Rattle.tb_eval.specs.Run.{whole_run};
+ghost use Rattle.tb_top.specs.Conclusion.{Concludes, RunEnds};
 ghost use Rattle.tb_top.specs.Stages.{ComesTo};
 
 use crate::halt::Halt;
 use crate::read::read_file;
 use crate::words::file_word;
+use sqlite_items::Items;
 use std::alloc::Global;
-use tb_base::{Fault, Files, Sink, put_all};
-use tb_parse::{Statement, small};
+use tb_base::{Files, Sink};
+use tb_diag::report;
+use tb_eval::Outcome;
+use tb_lower::lower_source;
+use tb_mir::Mir;
+use tb_parse::small;
+use tb_run::Machine;
 
-/// Puts out what one statement puts.
-fn put_statement<O: Sink>(out: &mut O, statement: &Statement) -> Result<(), Fault>
-    requires { O.faults out.old < 2 ^ 64 - 1 }
-    ensures whole { OnOk result (Grew (O.bytes out.old) (O.bytes out.new) (put_by statement.now)) }
-    ensures kept { OnOk result (O.faults out.new ≡ O.faults out.old) }
-    ensures front { OnErr result (GrewByPrefix (O.bytes out.old) (O.bytes out.new) (put_by statement.now)) }
-    ensures rose { OnErr result (O.faults out.old < O.faults out.new) }
+/// Reports the end of a run that does not finish.
+fn conclude(alloc: Global, source: &[u8], end: Outcome) -> Result<(), Halt>
+    requires short { length source.now ≤ 1048576 }
+    requires ended { end ≢ Outcome.StepLimit }
+    ensures { Concludes source.now end result }
 {
-    match statement {
-        Statement::Print(print) => put_all(out, print.text.bytes.as_slice()),
+    match end {
+        Outcome::Finished => Ok(()),
+        Outcome::WriteFault => Err(Halt::WriteFault),
+        Outcome::Memory => Err(Halt::Memory),
+        Outcome::StepLimit => unreachable!(),
+        Outcome::Undefined(_, _) => match report(alloc, source, &end) {
+            Ok(text) => Err(Halt::Undefined(Items::from_vec(text))),
+            Err(_) => Err(Halt::Memory),
+        },
+        Outcome::Panic(_, _) => match report(alloc, source, &end) {
+            Ok(text) => Err(Halt::Panic(Items::from_vec(text))),
+            Err(_) => Err(Halt::Memory),
+        },
     }
 }
 
-/// Puts out what the statements put, in order.
-#[tactic(auto, using(crate::proofs::PrintingLaws::printing_laws))]
-fn print_all<O: Sink>(out: &mut O, statements: &[Statement]) -> Result<(), Fault>
-    requires { O.faults out.old < 2 ^ 64 - 1 }
-    ensures whole { OnOk result (Grew (O.bytes out.old) (O.bytes out.new) (flat_map put_by statements.now)) }
-    ensures kept { OnOk result (O.faults out.new ≡ O.faults out.old) }
-    ensures front { OnErr result (GrewByPrefix (O.bytes out.old) (O.bytes out.new) (flat_map put_by statements.now)) }
-    ensures rose { OnErr result (O.faults out.old < O.faults out.new) }
+/// Runs a lowered source to its end. The bound on steps is one that no run meets.
+fn run_mir<O: Sink>(alloc: Global, source: &[u8], mir: &Mir, out: &mut O) -> Result<(), Halt>
+    requires short { length source.now ≤ 1048576 }
+    requires out { O.faults out.old < 2 ^ 64 - 1 }
+    ensures { RunEnds source.now (whole_run mir.now)
+        (record { bytes = O.bytes out.old; faults = O.faults out.old }) (record { bytes = O.bytes out.new; faults = O.faults out.new }) result }
 {
-    for statement in statements {
-        put_statement(out, statement)?;
-    }
-    Ok(())
+    let mut machine = Machine::start(alloc, mir)?;
+    let bound = mir.lines(0, 0).len() as u64 + 1;
+    let end = tb_run::run(&mut machine, mir, bound, out);
+    conclude(alloc, source, end)
 }
 
 /// Reads the source that the words name, and runs it.
@@ -56,6 +68,8 @@ pub fn run<F: Files, O: Sink>(
 {
     let name = file_word(words).ok_or(Halt::Usage)?;
     let source = read_file(alloc, files, name)?;
-    let tree = small(alloc, &source)?;
-    print_all(out, tree.body.statements.as_slice()).map_err(|_| Halt::WriteFault)
+    let text = source.as_slice();
+    let tree = small(alloc, text)?;
+    let mir = lower_source(alloc, &tree)?;
+    run_mir(alloc, text, &mir, out)
 }

@@ -126,6 +126,134 @@ fn sources_and_words(rt: HostRuntime) -> Result<(), Fail> {
     Ok(())
 }
 
+/// A source, what it prints, its report, and the status.
+const VARIABLES: [(&str, &str, &str, u8); 20] = [
+    (
+        "fn main() {\n    let x = 40;\n    let mut y = x + 1;\n    y = y + 1;\n    print!(\"{} {}\\n\", x, y);\n}\n",
+        "40 42\n",
+        "",
+        0,
+    ),
+    (
+        "fn main() { let x = 2147483647; print!(\"a\"); let y = x + 1; }",
+        "a",
+        "panic: overflow at 1:54-1:59\n",
+        3,
+    ),
+    (
+        "fn main() { let a = 1; let a = a + 1; print!(\"{}\", a); }",
+        "2",
+        "",
+        0,
+    ),
+    (
+        "fn main() { let mut a = 1; let b = a; a = 5; print!(\"{}{}\", a, b); }",
+        "51",
+        "",
+        0,
+    ),
+    (
+        "fn main() { print!(\"{}, {}.\", 2147483647, 0); }",
+        "2147483647, 0.",
+        "",
+        0,
+    ),
+    (
+        "fn main() {\n  let a = 2147483646;\n  print!(\"{}\\n\", a + 1);\n  print!(\"{}\", a + 1 + a + 1);\n}",
+        "2147483647\n",
+        "panic: overflow at 4:16-4:25\n",
+        3,
+    ),
+    (
+        "fn main() { print!(\"{}\", 1 + 2147483647 + 0); }",
+        "",
+        "panic: overflow at 1:26-1:40\n",
+        3,
+    ),
+    ("fn main() { let a = 1; a = 2; }", "", NOT_BUILT, 2),
+    (
+        "fn main() { let mut a = 1; let a = 2; a = 3; }",
+        "",
+        NOT_BUILT,
+        2,
+    ),
+    ("fn main() { print!(\"{}\", b); }", "", NOT_BUILT, 2),
+    ("fn main() { let a = a; }", "", NOT_BUILT, 2),
+    ("fn main() { b = 1; }", "", NOT_BUILT, 2),
+    ("fn main() { let a = 2147483648; }", "", NOT_BUILT, 2),
+    ("fn main() { print!(\"{}\", 1, 2); }", "", NOT_BUILT, 2),
+    ("fn main() { print!(\"{} {}\", 1); }", "", NOT_BUILT, 2),
+    ("fn main() { print!(\"a\", 1); }", "", NOT_BUILT, 2),
+    ("fn main() { print!(\"{\", 1); }", "", NOT_BUILT, 2),
+    ("fn main() { let fn = 1; }", "", NOT_BUILT, 2),
+    ("fn main() { let a = -1; }", "", NOT_BUILT, 2),
+    ("fn main() { let a: i32 = 1; }", "", NOT_BUILT, 2),
+];
+
+#[test]
+fn variables(rt: HostRuntime) -> Result<(), Fail> {
+    for (source, out, err, status) in VARIABLES {
+        let done = call(rt.alloc(), &["f"], source.as_bytes(), CALM)?;
+        assert_eq!(rt; done.status.0, status, "the status of {source:?}");
+        assert_eq!(rt; done.out.bytes(), out.as_bytes());
+        assert_eq!(rt; done.err.bytes(), err.as_bytes());
+    }
+    Ok(())
+}
+
+/// Front, piece, how often it stands between, back, what is printed, and the status.
+const LONG: [(&str, &str, usize, &str, &str, u8); 6] = [
+    ("fn main() { print!(\"{}\", 1", " + 1", 63, "); }", "64", 0),
+    ("fn main() { print!(\"{}\", 1", " + 1", 64, "); }", "", 2),
+    (
+        "fn main() { ",
+        "let a = 1; ",
+        4095,
+        "print!(\"b\"); }",
+        "b",
+        0,
+    ),
+    (
+        "fn main() { ",
+        "let a = 1; ",
+        4096,
+        "print!(\"b\"); }",
+        "",
+        2,
+    ),
+    (
+        "fn main() { let mut a = 1; ",
+        "a = a + 2; ",
+        1000,
+        "print!(\"{}\", a); }",
+        "2001",
+        0,
+    ),
+    (
+        "fn main() { let mut a = 1; ",
+        "a = a + 2; ",
+        2047,
+        "print!(\"{}\", a); }",
+        "",
+        2,
+    ),
+];
+
+#[test]
+fn long_sources(rt: HostRuntime) -> Result<(), Fail> {
+    for (front, piece, count, back, out, status) in LONG {
+        let mut source = front.as_bytes().to_vec(rt.alloc())?;
+        for _ in 0..count {
+            source.extend_from_slice(piece.as_bytes())?;
+        }
+        source.extend_from_slice(back.as_bytes())?;
+        let done = call(rt.alloc(), &["f"], &source, CALM)?;
+        assert_eq!(rt; done.status.0, status);
+        assert_eq!(rt; done.out.bytes(), out.as_bytes());
+    }
+    Ok(())
+}
+
 #[test]
 fn the_longest_source(rt: HostRuntime) -> Result<(), Fail> {
     let mut source = TWO.as_bytes().to_vec(rt.alloc())?;

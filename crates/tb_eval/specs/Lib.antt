@@ -1,0 +1,4 @@
+pub mod Value
+pub mod Print
+pub mod Step
+pub mod Run

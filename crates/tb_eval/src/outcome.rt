@@ -1,0 +1,49 @@
+use tb_perm::Span;
+
+/// Why a run is undefined behaviour.
+#[derive(Clone, Copy, Debug, PartialEq, Eq)]
+pub enum Stop {
+    /// An access to memory that is not live.
+    Dangling,
+    /// A byte that has no value was needed.
+    Uninit,
+}
+
+/// Why a run panics.
+#[derive(Clone, Copy, Debug, PartialEq, Eq)]
+pub enum Panic {
+    /// An operator's result does not fit its type.
+    Overflow,
+}
+
+/// How a run ends. The span is that of the line that ends it.
+#[derive(Clone, Copy, Debug, PartialEq, Eq)]
+pub enum Outcome {
+    Finished,
+    Undefined(Stop, Span),
+    Panic(Panic, Span),
+    /// The bound on steps was met.
+    StepLimit,
+    /// A write to the output failed.
+    WriteFault,
+    /// Memory ran out.
+    Memory,
+}
+
+/// Why a right side has no value.
+#[derive(Clone, Copy, Debug, PartialEq, Eq)]
+pub enum EvalError {
+    Stop(Stop),
+    Panic(Panic),
+}
+
+impl From<Stop> for EvalError {
+    ghost use Rattle.std.specs.Prelude.{◌≡◌};
+    ghost use Rattle.tb_eval.specs.declared.outcome.EvalError.TheVariants as error;
+
+    ghost from_gives = { λ stop e. e ≡ error.Stop stop };
+
+    fn from(stop: Stop) -> EvalError {
+        EvalError::Stop(stop)
+    }
+}

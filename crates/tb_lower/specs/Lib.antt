@@ -1,0 +1,4 @@
+pub mod Names
+pub mod Lowering
+pub mod Counting
+pub mod Ready

@@ -1,0 +1,12 @@
+//! The machine that runs the middle representation, one line a step.
+#![tactic(auto)]
+
+mod carry;
+mod machine;
+mod runs;
+
+pub use machine::{Machine, Memory, Turn};
+pub use runs::run;
+
+#[cfg(test)]
+mod tests;

@@ -1,0 +1,113 @@
+ghost use Rattle.std.specs.Prelude.{◌≡◌, ◌<◌, ◌-◌, ◌^◌, IfOk, map};
+ghost use Rattle.tb_eval.specs.Step.{first_slot};
+ghost use Rattle.tb_mir.specs.declared.mir.Local.{Local};
+
+use crate::carry::carry;
+use sqlite_items::Items;
+use std::alloc::{AllocError, Global};
+use std::marker::Model;
+use tb_base::{Sink, put_all};
+use tb_eval::{Frame, Outcome, Slot};
+use tb_mir::{Local, LocalKind, Mir};
+
+/// Memory ran out.
+#[derive(Clone, Copy, Debug, PartialEq, Eq)]
+pub struct Memory;
+
+/// What a step comes to.
+#[derive(Clone, Copy, Debug, PartialEq, Eq)]
+pub enum Turn {
+    /// There is a next step.
+    Goes,
+    /// The run has ended.
+    Ended(Outcome),
+}
+
+/// A run of a program, between two steps.
+#[derive(Debug, Drop)]
+pub struct Machine {
+    alloc: Global,
+    frame: Frame,
+    steps: u64,
+}
+
+impl Model for Machine {
+    ghost use Rattle.tb_run.specs.Held.{Held};
+
+    ghost Value = { Held };
+
+    ghost view = { λ m. record { frame = m.frame; steps = m.steps } };
+}
+
+/// What a local has before the first step.
+fn first(local: &Local) -> Slot
+    ensures { result ≡ first_slot local.now.kind }
+{
+    match local.kind {
+        LocalKind::Variable => Slot::Dead,
+        LocalKind::Temp => Slot::Empty,
+    }
+}
+
+/// What the locals have before the first step.
+fn first_of(alloc: Global, locals: &[Local]) -> Result<Items<Slot>, AllocError>
+    ensures { IfOk result (λ slots. slots ≡ map (λ (local : Local). first_slot local.kind) locals.now) }
+{
+    let mut slots = Vec::new(alloc);
+    for local in locals {
+        slots.push(first(local))?;
+    }
+    Ok(Items::from_vec(slots))
+}
+
+impl Machine {
+    ghost use Rattle.tb_eval.specs.Step.{first_frame, step_of};
+    ghost use Rattle.tb_run.specs.Stepped.{Answers};
+
+    /// A machine before the first line of the first function, which is `main`.
+    pub fn start(alloc: Global, mir: &Mir) -> Result<Machine, Memory>
+        ensures { IfOk result (λ machine. machine ≡ record { frame = first_frame mir.now; steps = 0 }) }
+    {
+        let slots = match mir.funcs.get(0) {
+            Some(main) => first_of(alloc, main.locals.as_slice()),
+            None => Ok(Items::new(alloc)),
+        };
+        let Ok(locals) = slots else {
+            return Err(Memory);
+        };
+        Ok(Machine {
+            alloc,
+            frame: Frame {
+                func: 0,
+                block: 0,
+                at: 0,
+                locals,
+            },
+            steps: 0,
+        })
+    }
+
+    /// Carries out the next line. What a print puts goes out within its step. It is not called after
+    /// the run has ended.
+    pub fn step<O: Sink>(&mut self, mir: &Mir, out: &mut O) -> Turn
+        requires out { O.faults out.old < 2 ^ 64 - 1 }
+        requires steps { self.old.steps < 2 ^ 64 - 1 }
+        ensures { Answers (step_of mir.now self.old.frame) self.old self.new
+            (record { bytes = O.bytes out.old; faults = O.faults out.old }) (record { bytes = O.bytes out.new; faults = O.faults out.new }) result }
+    {
+        let frame = &mut self.frame;
+        let Some(line) = mir.line(frame.func, frame.block, frame.at) else {
+            return Turn::Ended(Outcome::Finished);
+        };
+        let bytes = match carry(self.alloc, &mut frame.locals, &line.line, line.span) {
+            Ok(bytes) => bytes,
+            Err(outcome) => return Turn::Ended(outcome),
+        };
+        if put_all(out, &bytes).is_err() {
+            return Turn::Ended(Outcome::WriteFault);
+        }
+        self.frame.at += 1;
+        self.steps += 1;
+        Turn::Goes
+    }
+}
