@@ -1,0 +1,18 @@
+use Rattle.std.proofs.Common.{◌≡◌, ◌∙◌, ap, subst}
+use Rattle.tb_perm.specs.Rows.{unguarded, IsRows}
+use Rattle.tb_plain.specs.Plain.{Plain, rows_in, notes_of}
+use Rattle.tb_plain.proofs.Unguarded.{rows-unguarded, notes-unguarded, IsPlain-unguarded}
+use Rattle.tb_plain.proofs.plain_tree.PlainTreeBorrowTree.unguard.Goals as goal
+
+pub invariant_of-self : goal.invariant_of-self
+invariant_of-self c = IsPlain-unguarded c.self.inside.shape c.self.inside.rows.items _ c.self.inside.size c.args.tag.0 c.self.invariant c.unguard_in.ensures
+
+pub returns-clause-rows : goal.returns-clause-rows
+returns-clause-rows c =
+    ap (rows_in c.self.inside.shape) c.unguard_in.ensures ∙ rows-unguarded c.self.inside.shape c.self.inside.rows.items c.args.tag.0 ∙ ap (λ (t : Plain). unguarded t.rows c.args.tag.0) c.self.view_is
+
+pub returns-clause-notes : goal.returns-clause-notes
+returns-clause-notes c = ap notes_of c.unguard_in.ensures ∙ notes-unguarded c.self.inside.rows.items c.args.tag.0 ∙ ap (λ (t : Plain). t.notes) c.self.view_is
+
+pub returns-clause-sound : goal.returns-clause-sound
+returns-clause-sound c = (IsPlain-unguarded c.self.inside.shape c.self.inside.rows.items _ c.self.inside.size c.args.tag.0 c.self.invariant c.unguard_in.ensures).sound

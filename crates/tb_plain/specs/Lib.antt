@@ -1,0 +1,5 @@
+pub mod Sweep
+pub mod Plain
+pub mod Bytes
+pub mod Fits
+pub mod Changes
