@@ -178,7 +178,8 @@ or_true a b h = rw h refl
 pub HasTag-reverse : (rows : List Row) (t : ℕ) → HasTag rows t → HasTag (reverse rows) t
 HasTag-reverse rows t has = list_any-reverse_aux (is_tag t) rows [] ∙ or_true _ _ has
 
-IsGrown-next : (older : List Row) (row : Row) → IsNext older row → IsGrown older → IsGrown (row ∷ older)
+-- a row may come next
+pub IsGrown-next : (older : List Row) (row : Row) → IsNext older row → IsGrown older → IsGrown (row ∷ older)
 IsGrown-next [] row next grown = absurd grown
 IsGrown-next (p ∷ older) row next grown = (next, grown)
 

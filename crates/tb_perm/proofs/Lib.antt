@@ -1,3 +1,4 @@
 pub mod Order
 pub mod Kept
 pub mod Unique
+pub mod Removed

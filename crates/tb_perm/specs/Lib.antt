@@ -11,3 +11,4 @@ pub mod Reborrow
 pub mod Release
 pub mod Deallocation
 pub mod Answer
+pub mod Pruning

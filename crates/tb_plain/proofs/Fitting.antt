@@ -73,11 +73,10 @@ and_true false c h = refl
 -- every row's tag is there
 all_there : (rows all : List PlainRow) → ((r : PlainRow) → contains (map (λ (x : PlainRow). x.tag.0) rows) r.tag.0 ≡ true → contains (map (λ (x : PlainRow). x.tag.0) all) r.tag.0 ≡ true) → AllByRecursion (λ (r : PlainRow). contains (map (λ (x : PlainRow). x.tag.0) all) r.tag.0 ≡ true) rows
 all_there [] all within = tt
-all_there (r ∷ rows) all within =
-    (
-      within r (ap (λ b. b || contains (map (λ (x : PlainRow). x.tag.0) rows) r.tag.0) (eq-eqb r.tag.0 r.tag.0 refl)),
-      all_there rows all (λ other h. within other (or_later (r.tag.0 == other.tag.0) _ h)),
-    )
+all_there (r ∷ rows) all within = (
+  within r (ap (λ b. b || contains (map (λ (x : PlainRow). x.tag.0) rows) r.tag.0) (eq-eqb r.tag.0 r.tag.0 refl)),
+  all_there rows all (λ other h. within other (or_later (r.tag.0 == other.tag.0) _ h)),
+)
   where
     or_later : (b c : Bool) → c ≡ true → (b || c) ≡ true
     or_later true c h = refl

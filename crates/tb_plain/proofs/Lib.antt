@@ -5,3 +5,6 @@ pub mod Fitting
 pub mod Outcomes
 pub mod Made
 pub mod Unguarded
+pub mod Greatest
+pub mod Pruned
+pub mod TakenOut

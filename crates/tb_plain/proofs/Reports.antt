@@ -113,13 +113,12 @@ rel-fits tree rows size event sweep r fits =
 
 agrees_fits : (tree : Keys) (all : List PlainRow) (size : ℕ) (event : Event) (sweep : Sweep) → Fits tree all size event sweep → sweep.strong ≡ false → (b : ℕ) (rows : List PlainRow) → AllByRecursion (λ (r : PlainRow). event.meets r.tag.0 b ≡ met sweep r.tag.0 b) rows → Agrees tree (refusal_at (rows_in tree all) event) sweep b rows
 agrees_fits tree all size event sweep fits weak b [] meets = tt
-agrees_fits tree all size event sweep fits weak b (r ∷ rows) meets =
-    (
-      ap (λ k. refusal_of k (is_guarded r.guard) (rel_of (rows_in tree all) event (row_in tree r)) (state_at (row_in tree r) b)) meets.0
+agrees_fits tree all size event sweep fits weak b (r ∷ rows) meets = (
+  ap (λ k. refusal_of k (is_guarded r.guard) (rel_of (rows_in tree all) event (row_in tree r)) (state_at (row_in tree r) b)) meets.0
       ∙ ap (λ rel. refusal_of (met sweep r.tag.0 b) (is_guarded r.guard) rel (state_at (row_in tree r) b)) (rel-fits tree all size event sweep r fits)
       ∙ sym (ap (λ s. cond s (strong_refusal (row_in tree r) b) (refusal_of (met sweep r.tag.0 b) (is_guarded r.guard) (rel_in sweep r.tag.0) (state_at (row_in tree r) b))) weak),
-      agrees_fits tree all size event sweep fits weak b rows meets.1,
-    )
+  agrees_fits tree all size event sweep fits weak b rows meets.1,
+)
 
 -- the report of an event is that of the sweep that fits it
 pub report-fits : (tree : Keys) (rows : List PlainRow) (size : ℕ) (event : Event) (sweep : Sweep) (access : Access) → IsPlain tree rows size → Fits tree rows size event sweep → sweep.strong ≡ false → report_of (refusal_at (rows_in tree rows) event) access size (rows_in tree rows) event.through ≡ reported sweep access size rows event.through
@@ -128,11 +127,10 @@ report-fits tree rows size event sweep access is fits weak =
 
 agrees_strong : (tree : Keys) (sweep : Sweep) → sweep.strong ≡ true → (b : ℕ) (rows : List PlainRow) → Agrees tree strong_refusal sweep b rows
 agrees_strong tree sweep strong b [] = tt
-agrees_strong tree sweep strong b (r ∷ rows) =
-    (
-      sym (ap (λ s. cond s (strong_refusal (row_in tree r) b) (refusal_of (met sweep r.tag.0 b) (is_guarded r.guard) (rel_in sweep r.tag.0) (state_at (row_in tree r) b))) strong),
-      agrees_strong tree sweep strong b rows,
-    )
+agrees_strong tree sweep strong b (r ∷ rows) = (
+  sym (ap (λ s. cond s (strong_refusal (row_in tree r) b) (refusal_of (met sweep r.tag.0 b) (is_guarded r.guard) (rel_in sweep r.tag.0) (state_at (row_in tree r) b))) strong),
+  agrees_strong tree sweep strong b rows,
+)
 
 pub report-strong : (tree : Keys) (rows : List PlainRow) (size through : ℕ) (sweep : Sweep) (access : Access) → IsPlain tree rows size → sweep.path ≡ tags (way (rows_in tree rows) through) → sweep.strong ≡ true → report_of strong_refusal access size (rows_in tree rows) through ≡ reported sweep access size rows through
 report-strong tree rows size through sweep access is path strong =

@@ -36,11 +36,10 @@ has_key_at (e ∷ tree) [] key same has = cc
 -- the row's tag is a key of the tree
 known : (tree : Keys) (rows all : List PlainRow) → ((row : PlainRow) → list_any (λ k. k == row.tag.0) (map (λ (r : PlainRow). r.tag.0) all) ≡ true → HasKey tree row.tag.0) → ((row : PlainRow) → list_any (λ k. k == row.tag.0) (map (λ (r : PlainRow). r.tag.0) rows) ≡ true → list_any (λ k. k == row.tag.0) (map (λ (r : PlainRow). r.tag.0) all) ≡ true) → AllByRecursion (IsKnown tree) (rows_in tree rows)
 known tree [] all has within = tt
-known tree (row ∷ rows) all has within =
-    (
-      record { there = has row (within row (ap (λ b. b || list_any (λ k. k == row.tag.0) (map (λ (r : PlainRow). r.tag.0) rows)) (eq-eqb row.tag.0 row.tag.0 refl))); parent = refl },
-      known tree rows all has (λ other h. within other (or_later (row.tag.0 == other.tag.0) _ h)),
-    )
+known tree (row ∷ rows) all has within = (
+  record { there = has row (within row (ap (λ b. b || list_any (λ k. k == row.tag.0) (map (λ (r : PlainRow). r.tag.0) rows)) (eq-eqb row.tag.0 row.tag.0 refl))); parent = refl },
+  known tree rows all has (λ other h. within other (or_later (row.tag.0 == other.tag.0) _ h)),
+)
   where
     or_later : (b c : Bool) → c ≡ true → (b || c) ≡ true
     or_later true c h = refl

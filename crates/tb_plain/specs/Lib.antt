@@ -3,3 +3,4 @@ pub mod Plain
 pub mod Bytes
 pub mod Fits
 pub mod Changes
+pub mod Pruning

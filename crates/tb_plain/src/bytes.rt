@@ -45,11 +45,7 @@ fn lies_in(lo: u32, hi: u32, byte: u32) -> bool
 }
 
 /// The read of a reborrow.
-pub fn reborrow_kinds(
-    alloc: Global,
-    size: u32,
-    new: &NewTag,
-) -> Result<Items<Option<Kind>>, Memory>
+pub fn reborrow_kinds(alloc: Global, size: u32, new: &NewTag) -> Result<Items<Option<Kind>>, Memory>
     ensures { IfOk result (λ kinds. kinds ≡ map (reborrow_at new.now) (range_with_len 0 size)) }
 {
     let mut kinds = Items::new(alloc);

@@ -10,15 +10,14 @@ ghost use Rattle.tb_plain.specs.Changes.{unguarded_plain, IsMade};
 ghost use Rattle.tb_plain.specs.declared.row.PlainRow.{PlainRow};
 ghost use Rattle.tb_shape.specs.Tree.{HasKey, with_child};
 
-use std::alloc::Global;
-use tb_perm::{Access, Guard, Memory, NewTag, Span, Tag, TreeError};
-use tb_shape::Shape;
-
 use crate::bytes::{new_states, root_states};
 use crate::choice::choose;
 use crate::events::reborrow_sweep;
 use crate::row::PlainRow;
 use crate::sweep::{Sweep, sweep_rows};
+use std::alloc::Global;
+use tb_perm::{Access, Guard, Memory, NewTag, Span, Tag, TreeError};
+use tb_shape::Shape;
 
 /// The row of a root, in a list of its own.
 pub fn root_rows(alloc: Global, size: u32, tag: Tag, made: Span) -> Result<Vec<PlainRow>, Memory>

@@ -15,15 +15,14 @@ ghost use Rattle.tb_plain.specs.Sweep.{swept, reported, is_plain, HasPlain};
 ghost use Rattle.tb_plain.specs.declared.row.PlainRow.{PlainRow};
 ghost use Rattle.tb_shape.specs.Tree.{HasKey, IsPath};
 
-use sqlite_items::Items;
-use std::alloc::Global;
-use tb_perm::{Access, Kind, Memory, NewTag, Tag, TreeError};
-use tb_shape::Shape;
-
 use crate::bytes::{access_kinds, put, reborrow_kinds, release_kinds};
 use crate::choice::{choose, row_of};
 use crate::row::PlainRow;
 use crate::sweep::{Sweep, sweep_rows};
+use sqlite_items::Items;
+use std::alloc::Global;
+use tb_perm::{Access, Kind, Memory, NewTag, Tag, TreeError};
+use tb_shape::Shape;
 
 /// The sweep of an access.
 pub fn access_sweep(
@@ -131,7 +130,7 @@ pub fn release_sweep(
 }
 
 /// The row of a tag that has one.
-fn row_at(rows: &[PlainRow], tag: Tag) -> &PlainRow
+pub fn row_at(rows: &[PlainRow], tag: Tag) -> &PlainRow
     requires { HasPlain rows.now tag.0 }
     ensures { find (is_plain tag.0) rows.now ≡ Some result.now }
 {

@@ -6,6 +6,8 @@ mod changes;
 mod choice;
 mod events;
 mod plain_tree;
+mod pruning;
+mod queries;
 mod row;
 mod sweep;
 

@@ -1,0 +1,8 @@
+use Rattle.std.proofs.Common.{arith}
+use Rattle.std.proofs.lemmas.List.Edits.{map_over_more}
+use Rattle.tb_plain.specs.Pruning.{cleared_plain}
+use Rattle.tb_plain.proofs.pruning.clear_in.Goals as goal
+
+pub loop-at-preserved : goal.loop-at-preserved
+loop-at-preserved c =
+    rw c.clear_row.ensures (map_over_more (cleared_plain) c.args.rows.now.items c.loop-at.rows.items c.loop-at.at c.index_mut.result.now (omega arith) c.loop-at.invariant c.index_mut.ensures.value)
