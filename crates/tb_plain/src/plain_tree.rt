@@ -3,6 +3,10 @@ use crate::events::{access_in, free_in, release_in};
 use crate::pruning::{clear_in, is_noted_in, note_in, remove_in};
 use crate::queries::{folds_in, greatest_of, is_leaf_in, less_than, only_child_in};
 use crate::row::PlainRow;
+
+#[cfg(test)]
+mod tests;
+
 use std::alloc::Global;
 use std::marker::Model;
 use std::sync::ledger::Ledger;
