@@ -1,9 +1,9 @@
 -- Each tag has one row.
-use Rattle.std.proofs.Common.{◌≡◌, ◌∙◌, ◌≢◌, ℕ, ◌<◌, Bool, true, false, cond, List, [], ◌∷◌, reverse, refl, ap, sym, subst, arith, Option, Some, None, find, ◌==◌}
+use Rattle.std.proofs.Common.{◌≡◌, ◌∙◌, ◌≢◌, ℕ, ◌<◌, Bool, true, false, cond, List, [], ◌∷◌, reverse, refl, ap, arith, Option, Some, find, ◌==◌}
 use Rattle.std.specs.List.{AllByRecursion}
 use Rattle.std.proofs.lemmas.Bool.{eq-eqb, eqb-true, false_from_ne_true}
 use mathlib.Core.List.{reverse_aux}
-use Rattle.tb_perm.specs.Rows.{Row, is_tag, is_asked, IsGrown, IsRows, IsNext, way, way_back}
+use Rattle.tb_perm.specs.Rows.{Row, is_tag, is_asked, IsGrown, IsRows, way, way_back}
 
 -- each tag is below those after it
 abbrev pub AreRising : List Row → Type 0

@@ -1,10 +1,9 @@
 -- What is asked of a tree of tags when tags are pruned, and what a tag leaves that is taken out.
 use Rattle.std.specs.Prelude.{◌≡◌, ◌≢◌, ℕ, ◌<◌, Bool, cond, not, List, map, filter, find, Option, None, Some, option_and_then, option_map, unwrap_or, ◌==◌, false}
 use Rattle.std.specs.List.{list_any}
-use Rattle.tb_perm.specs.declared.perm.State.{State}
 use Rattle.tb_perm.specs.declared.perm.Perm.{Perm}
 use Rattle.tb_perm.specs.declared.perm.Perm.TheVariants.{Disabled}
-use Rattle.tb_perm.specs.Rows.{Row, is_tag, is_asked, state_at}
+use Rattle.tb_perm.specs.Rows.{Row, is_tag, state_at}
 use Rattle.tb_perm.specs.Covers.{Covers}
 
 -- the tag is noted

@@ -1,15 +1,13 @@
 -- The sweeps that are made fit their events.
-use Rattle.std.proofs.Common.{◌≡◌, ◌∙◌, ◌≢◌, ◌⊎◌, ◌||◌, ◌&&◌, ℕ, zero, suc, ◌+◌, ◌<◌, Bool, true, false, not, cond, List, [], ◌∷◌, ◌++◌, take, length, map, refl, ap, sym, subst, arith, Option, Some, None, find, ◌==◌, slice_index_or, zero-add, All, filter}
+use Rattle.std.proofs.Common.{◌≡◌, ◌∙◌, ◌≢◌, ◌||◌, ◌&&◌, ℕ, zero, suc, ◌+◌, ◌<◌, Bool, true, false, not, cond, List, [], ◌∷◌, ◌++◌, take, length, map, refl, ap, sym, subst, arith, Option, Some, None, find, ◌==◌, slice_index_or, zero-add, All, filter}
 use Rattle.std.specs.Prelude.{option_map, option_and_then, IsSome}
 use Rattle.std.specs.List.{list_any, AllByRecursion, range_with_len}
-use Rattle.std.proofs.lemmas.Bool.{eqb-true, eq-eqb, cases_Bool, false_from_ne_true}
+use Rattle.std.proofs.lemmas.Bool.{eqb-true, eq-eqb, false_from_ne_true}
 use Rattle.std.proofs.lemmas.List.Elements.{All-from_recursion, filter-append}
 use Rattle.std.proofs.lemmas.List.{take_more, map-append}
 use Rattle.tb_perm.specs.declared.perm.Kind.{Kind}
-use Rattle.tb_perm.specs.declared.perm.State.{State}
 use Rattle.tb_perm.specs.declared.perm.Perm.TheVariants.{Disabled}
-use Rattle.tb_perm.specs.Rows.{Row, is_tag, HasTag, way, is_on_way, state_at}
-use Rattle.tb_perm.specs.Event.{Event}
+use Rattle.tb_perm.specs.Rows.{Row, is_tag, HasTag, is_on_way, state_at}
 use Rattle.tb_perm.specs.Release.{release_event, released_kind, released_at, is_below}
 use Rattle.tb_shape.specs.Tree.{Keys, HasKey, IsPath, IsAncestor}
 use Rattle.tb_plain.specs.declared.row.PlainRow.{PlainRow}

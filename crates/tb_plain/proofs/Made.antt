@@ -1,9 +1,9 @@
 -- A new tag behind the rows.
-use Rattle.std.proofs.Common.{◌≡◌, ◌∙◌, ◌≢◌, ◌||◌, ℕ, ◌<◌, Bool, true, false, cond, List, [], ◌∷◌, ◌++◌, map, filter, refl, ap, sym, subst, arith, Option, Some, None, find, ◌==◌, All, nat_lt, inl, inr}
+use Rattle.std.proofs.Common.{◌≡◌, ◌∙◌, ◌≢◌, ◌||◌, ℕ, ◌<◌, true, false, cond, List, [], ◌∷◌, ◌++◌, map, filter, refl, ap, sym, subst, arith, Option, Some, None, find, ◌==◌, All, inl}
 use Rattle.std.specs.Prelude.{option_and_then}
 use Rattle.std.specs.Option.{option_or}
 use Rattle.std.specs.List.{list_any, AllByRecursion, range_with_len}
-use Rattle.std.proofs.lemmas.Bool.{eqb-true, eq-eqb, lt-ltb}
+use Rattle.std.proofs.lemmas.Bool.{eq-eqb, lt-ltb}
 use Rattle.std.proofs.lemmas.List.{map-append, append-nil}
 use Rattle.std.proofs.lemmas.List.Elements.{recursion_from_All, filter-append}
 use Rattle.std.proofs.lemmas.List.Folds.{find-append}
@@ -11,7 +11,7 @@ use Rattle.tb_perm.specs.declared.new_tag.NewTag.{NewTag}
 use Rattle.tb_perm.specs.Rows.{Row, HasTag, IsRows}
 use Rattle.tb_perm.specs.Event.{after}
 use Rattle.tb_perm.specs.Reborrow.{reborrow_event, reborrowed, reborrowed_rows, new_row, new_state}
-use Rattle.tb_perm.specs.Answer.{Between, BetweenOrMade}
+use Rattle.tb_perm.specs.Answer.{BetweenOrMade}
 use Rattle.tb_perm.proofs.Kept.{IsRows-reborrowed, Between-old_after}
 use Rattle.tb_shape.specs.Tree.{Keys, is_key, HasKey, parent_of, with_child}
 use Rattle.tb_plain.specs.declared.row.PlainRow.{PlainRow}

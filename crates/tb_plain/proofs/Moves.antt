@@ -1,8 +1,7 @@
 -- The moves of one row, and the search of the rows.
-use Rattle.std.proofs.Common.{◌≡◌, ◌∙◌, ℕ, suc, zero, ◌+◌, ◌-◌, ◌<◌, ◌≤◌, Bool, true, false, cond, List, [], ◌∷◌, ◌++◌, length, take, drop, set, refl, ap, sym, subst, arith, Option, Some, None, All, find, slice_index_or, map, add-zero, zero-add, add-one}
+use Rattle.std.proofs.Common.{◌≡◌, ◌∙◌, ℕ, suc, zero, ◌+◌, ◌-◌, ◌<◌, Bool, true, false, cond, List, [], ◌∷◌, ◌++◌, length, take, drop, set, refl, ap, sym, subst, arith, Option, Some, None, find, slice_index_or, map, add-zero, zero-add, add-one}
 use Rattle.std.specs.List.{AllByRecursion, range_with_len}
 use Rattle.std.proofs.lemmas.List.{append_assoc, drop_more, take_more_set, length-set, drop-set-lt}
-use Rattle.std.proofs.lemmas.List.Elements.{recursion_from_All}
 use Rattle.tb_perm.specs.declared.perm.State.{State}
 use Rattle.tb_perm.specs.declared.perm.Kind.{Kind}
 use Rattle.tb_perm.specs.declared.perm.Rel.{Rel}

@@ -1,5 +1,5 @@
 -- What an event leaves, whether it was carried out or not.
-use Rattle.std.proofs.Common.{◌≡◌, ◌∙◌, ℕ, List, map, refl, ap, sym, subst, Option, OnOk, OnErr}
+use Rattle.std.proofs.Common.{◌≡◌, ◌∙◌, ℕ, List, map, ap, sym, subst, Option, OnOk, OnErr}
 use Rattle.std.specs.Prelude.{Result, Ok, Err}
 use Rattle.tb_perm.specs.declared.report.Report.{Report}
 use Rattle.tb_perm.specs.declared.report.TreeError.{TreeError}

@@ -1,15 +1,15 @@
 -- What the pruning calls find and leave.
-use Rattle.std.proofs.Common.{◌≡◌, ◌∙◌, ◌≢◌, ◌⊎◌, ◌||◌, ◌&&◌, ℕ, suc, ◌+◌, ◌<◌, ◌≤◌, Bool, true, false, not, cond, List, [], ◌∷◌, ◌++◌, length, map, filter, refl, ap, sym, subst, arith, Option, Some, None, find, ◌==◌, slice_index_or, All, inl, inr, IsTrue}
+use Rattle.std.proofs.Common.{◌≡◌, ◌∙◌, ◌≢◌, ◌||◌, ◌&&◌, ℕ, suc, ◌+◌, ◌<◌, ◌≤◌, Bool, true, false, cond, List, [], ◌∷◌, length, map, filter, refl, ap, sym, subst, arith, Option, Some, None, find, ◌==◌, slice_index_or, All}
 use Rattle.std.specs.Prelude.{option_map, option_and_then, unwrap_or, IsSome, count_by}
-use Rattle.std.specs.List.{list_any, AllByRecursion}
-use Rattle.std.proofs.lemmas.Bool.{eqb-true, eq-eqb, cases_eq, lt-ltb, ltb-false}
+use Rattle.std.specs.List.{AllByRecursion}
+use Rattle.std.proofs.lemmas.Bool.{eqb-true, eq-eqb, lt-ltb, ltb-false}
 use Rattle.tb_perm.specs.Covers.{Covers}
 use Rattle.std.proofs.lemmas.List.Elements.{All-from_recursion}
 use Rattle.std.proofs.lemmas.List.Sums.{sum_by-cons}
 use Rattle.tb_perm.specs.declared.tag.Tag.{Tag}
 use Rattle.tb_perm.specs.declared.perm.State.{State}
 use Rattle.tb_perm.specs.declared.perm.Perm.TheVariants.{Disabled}
-use Rattle.tb_perm.specs.Rows.{Row, is_tag, HasTag, IsRows, state_at}
+use Rattle.tb_perm.specs.Rows.{Row, HasTag, IsRows, state_at}
 use Rattle.tb_perm.specs.Pruning.{is_noted, parent_in, IsLeaf, IsOnlyChild, perm_in, Folds}
 use Rattle.tb_shape.specs.Tree.{Keys, is_key, parent_of, is_child_of, AreChildren}
 use Rattle.tb_plain.specs.declared.row.PlainRow.{PlainRow}

@@ -1,5 +1,5 @@
 -- What the rows of a tree answer an event is what its plain rows answer the sweep that fits it.
-use Rattle.std.proofs.Common.{◌≡◌, ◌∙◌, ℕ, suc, zero, ◌+◌, ◌<◌, ◌≤◌, ◌||◌, Bool, true, false, cond, List, [], ◌∷◌, length, map, refl, ap, sym, subst, arith, Option, Some, None, find, is_some, ◌==◌, filter_map, slice_index_or, add-zero}
+use Rattle.std.proofs.Common.{◌≡◌, ◌∙◌, ℕ, suc, zero, ◌+◌, ◌<◌, ◌≤◌, ◌||◌, Bool, true, false, cond, List, [], ◌∷◌, length, map, refl, ap, sym, subst, arith, Option, Some, None, find, is_some}
 use Rattle.std.specs.Prelude.{option_map, option_and_then, filter}
 use Rattle.std.specs.Option.{option_or}
 use Rattle.std.specs.List.{list_any, AllByRecursion, range_with_len, cons_option}
@@ -8,10 +8,9 @@ use Rattle.tb_perm.specs.declared.perm.Rel.{Rel}
 use Rattle.tb_perm.specs.declared.perm.Rel.TheVariants.{Local, Foreign}
 use Rattle.tb_perm.specs.declared.perm.State.{State}
 use Rattle.tb_perm.specs.declared.report.Access.{Access}
-use Rattle.tb_perm.specs.declared.report.Report.{Report}
 use Rattle.tb_perm.specs.declared.report.Refusal.{Refusal}
 use Rattle.tb_perm.specs.Table.{is_guarded}
-use Rattle.tb_perm.specs.Rows.{Row, way, is_on_way, state_at, IsRows, HasTag}
+use Rattle.tb_perm.specs.Rows.{Row, way, state_at, IsRows}
 use Rattle.tb_perm.specs.Event.{Event, after, moved_row, moved_state, moved_states, refusal_of, refusal_at, rel_of}
 use Rattle.tb_perm.specs.Choice.{refuses, refused_byte, refusing_row, report_on, report_at, report_of}
 use Rattle.tb_perm.specs.Deallocation.{strong_refusal, dealloc_report}
@@ -23,7 +22,7 @@ use Rattle.tb_shape.specs.Tree.{Keys}
 use Rattle.tb_plain.specs.declared.row.PlainRow.{PlainRow}
 use Rattle.tb_plain.specs.declared.sweep.Sweep.{Sweep}
 use Rattle.tb_plain.specs.Plain.{row_in, rows_in, IsPlain, notes_of}
-use Rattle.tb_plain.specs.Sweep.{is_plain, rows_on, contains, met, rel_in, swept, refusal_by, refuses_by, byte_by, row_by, report_by, reported_at, reported}
+use Rattle.tb_plain.specs.Sweep.{is_plain, rows_on, met, rel_in, swept, refusal_by, refuses_by, byte_by, row_by, report_by, reported_at, reported}
 use Rattle.tb_plain.proofs.Moves.{find_All}
 use Rattle.tb_plain.specs.Fits.{tags, Fits}
 use Rattle.tb_plain.proofs.Ways.{is_on_way-path, rows_on_way}

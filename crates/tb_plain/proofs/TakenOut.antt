@@ -1,16 +1,15 @@
 -- A tag that is taken out.
-use Rattle.std.proofs.Common.{◌≡◌, ◌∙◌, ◌≢◌, ◌⊎◌, ◌||◌, ℕ, suc, zero, ◌+◌, ◌<◌, ◌≤◌, Bool, true, false, not, cond, List, [], ◌∷◌, ◌++◌, length, map, filter, remove, refl, ap, sym, subst, arith, Option, Some, None, find, ◌==◌, slice_index_or, inl, inr}
+use Rattle.std.proofs.Common.{◌≡◌, ◌∙◌, ◌≢◌, ℕ, suc, zero, ◌<◌, Bool, true, false, not, cond, List, [], ◌∷◌, length, map, filter, remove, refl, ap, sym, subst, arith, Option, Some, None, find, ◌==◌, slice_index_or}
 use Rattle.std.specs.Prelude.{option_map, option_and_then}
-use Rattle.std.specs.List.{list_any, AllByRecursion}
-use Rattle.std.proofs.lemmas.Bool.{eqb-true, eq-eqb, cases_eq}
+use Rattle.std.specs.List.{AllByRecursion}
+use Rattle.std.proofs.lemmas.Bool.{eqb-true, eq-eqb}
 use Rattle.tb_perm.specs.Rows.{Row, is_tag, IsRows}
-use Rattle.tb_perm.specs.Pruning.{parent_in, is_child, moved_up_row, removed, forgotten}
+use Rattle.tb_perm.specs.Pruning.{moved_up_row, removed, forgotten}
 use Rattle.tb_perm.proofs.Unique.{AreRising, AreRising-rows}
 use Rattle.tb_perm.proofs.Removed.{IsRows-removed}
 use Rattle.tb_shape.specs.Tree.{Keys, is_key, parent_of, is_child_of, without, spliced, moved_up}
 use Rattle.tb_plain.specs.declared.row.PlainRow.{PlainRow}
 use Rattle.tb_plain.specs.Plain.{row_in, rows_in, IsPlain, notes_of}
-use Rattle.tb_plain.specs.Sweep.{is_plain}
 use Rattle.tb_plain.specs.Pruning.{tags_of, others_plain, other_keys, keys_of}
 use Rattle.tb_plain.proofs.Fitting.{unlike}
 use Rattle.tb_plain.proofs.Pruned.{parent_in-tree}

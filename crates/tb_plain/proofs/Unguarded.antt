@@ -1,7 +1,7 @@
 -- The end of a guard.
-use Rattle.std.proofs.Common.{◌≡◌, ◌∙◌, ℕ, Bool, true, false, cond, List, [], ◌∷◌, map, filter, refl, ap, sym, subst}
+use Rattle.std.proofs.Common.{◌≡◌, ◌∙◌, ℕ, Bool, true, false, cond, List, [], ◌∷◌, map, refl, ap, sym, subst}
 use Rattle.tb_perm.specs.declared.perm.Guard.TheVariants.{Free}
-use Rattle.tb_perm.specs.Rows.{Row, IsRows, unguarded, unguarded_row}
+use Rattle.tb_perm.specs.Rows.{IsRows, unguarded, unguarded_row}
 use Rattle.tb_perm.proofs.Kept.{IsRows-unguarded}
 use Rattle.tb_shape.specs.Tree.{Keys}
 use Rattle.tb_plain.specs.declared.row.PlainRow.{PlainRow}

@@ -1,9 +1,9 @@
 -- The way of a tag in the rows is its path in the tree of tags.
-use Rattle.std.proofs.Common.{◌≡◌, ◌∙◌, ◌≢◌, ◌⊎◌, ◌||◌, ℕ, ◌<◌, Bool, true, false, cond, List, [], ◌∷◌, map, reverse, refl, ap, sym, subst, arith, Option, Some, None, find, ◌==◌, filter_map, IsTrue}
+use Rattle.std.proofs.Common.{◌≡◌, ◌∙◌, ◌||◌, ℕ, Bool, true, false, cond, List, [], ◌∷◌, map, reverse, refl, ap, sym, subst, Option, Some, None, find, ◌==◌}
 use Rattle.std.specs.Prelude.{option_map}
 use Rattle.std.specs.List.{list_any, AllByRecursion, cons_option}
 use Rattle.std.proofs.lemmas.Bool.{eqb-true, eq-eqb}
-use Rattle.tb_perm.specs.Rows.{Row, is_tag, is_asked, HasTag, IsNext, IsGrown, IsRows, way, way_back, is_on_way}
+use Rattle.tb_perm.specs.Rows.{Row, is_tag, HasTag, IsGrown, way, way_back, is_on_way}
 use Rattle.tb_perm.proofs.Kept.{HasTag-reverse}
 use Rattle.tb_perm.proofs.Unique.{AreRising-rows, find_self, AllByRecursion-reverse, AllByRecursion-way}
 use Rattle.tb_shape.specs.Tree.{Keys, is_key, HasKey, parent_of, IsPath, IsAncestor}

@@ -1,5 +1,5 @@
 -- How the rows of a `PlainTree` meet an event.
-use Rattle.std.specs.Prelude.{◌≡◌, ℕ, Bool, true, false, cond, not, ◌&&◌, ◌==◌, List, [], ◌∷◌, Option, Some, None, is_some, IsSome, find, option_map, option_and_then, slice_index_or, filter_map, map}
+use Rattle.std.specs.Prelude.{ℕ, Bool, false, cond, not, ◌&&◌, ◌==◌, List, Option, Some, None, is_some, IsSome, find, option_map, option_and_then, slice_index_or, filter_map}
 use Rattle.std.specs.List.{list_any, range_with_len}
 use Rattle.std.specs.Option.{option_or}
 use Rattle.tb_perm.specs.declared.perm.Kind.{Kind}

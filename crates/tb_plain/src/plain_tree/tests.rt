@@ -199,6 +199,7 @@ fn end_of(
     outcome::<Brand>(Blank::new(1), alloc, size, list, tag, byte)
 }
 
+/// The same with a ledger for the steps.
 fn outcome<L: Ledger>(
     blank: Blank,
     alloc: Global,
@@ -659,6 +660,7 @@ fn reborrows<T: BorrowTree, L: Ledger>(
     tree.access(Tag(2), 0, 4, Kind::Write, steps)
 }
 
+/// The same of a plain tree.
 fn reborrows_plain(alloc: Global) -> Result<(), TreeError> {
     reborrows_from::<Brand>(Blank::new(1), alloc)
 }
@@ -675,4 +677,70 @@ fn reborrows_from<L: Ledger>(blank: Blank, alloc: Global) -> Result<(), TreeErro
 #[test]
 fn through_the_bound(rt: HostRuntime) {
     assert_eq!(rt; reborrows_plain(rt.alloc()), Ok(()));
+}
+
+/// Takes out the only child of the tag, if that has an only child itself, which is then given.
+fn skip_child(tree: &mut PlainTree, tag: Tag) -> Option<Tag> {
+    if !has_tag(tree, tag) {
+        return None;
+    }
+    let middle = tree.only_child(tag)?;
+    if !has_tag(tree, middle) {
+        return None;
+    }
+    let last = tree.only_child(middle)?;
+    tree.remove(middle);
+    Some(last)
+}
+
+/// What is asked of a tag that has a row: whether it is noted after its noting, whether it is a leaf,
+/// and the tag below it.
+fn asked(tree: &mut PlainTree, tag: Tag) -> Option<(bool, bool, Option<Tag>)> {
+    if !has_tag(tree, tag) {
+        return None;
+    }
+    tree.note(tag);
+    Some((tree.noted(tag), tree.is_leaf(tag), tree.below(tag)))
+}
+
+fn folds_into(tree: &PlainTree, tag: Tag, child: Tag) -> bool {
+    has_tag(tree, tag) && has_tag(tree, child) && tree.folds(tag, child, false)
+}
+
+/// A chain of the tags 1 to 3 that is pruned.
+fn prune_chain<L: Ledger>(blank: Blank, alloc: Global, rt: &impl Abort)
+    requires name { blank.name ≡ L.name }
+    requires parts { blank.parts ≡ L.parts }
+    requires some { 0 < L.parts }
+{
+    let mut steps: Steps<L> = Steps::new(blank);
+    let Ok(mut tree) = PlainTree::root(alloc, 4, Tag(1), MADE) else {
+        return rt.abort();
+    };
+    let list = [
+        unique(1, 2, 0, 4, Guard::Free, MADE),
+        unique(2, 3, 0, 4, Guard::Free, SECOND),
+    ];
+    assert_eq!(rt; run(alloc, &mut tree, 4, &list, &mut steps), Ok(()));
+    assert_eq!(rt; tree.count(), 3);
+    assert_eq!(rt; tree.greatest(), Tag(3));
+    assert_eq!(rt; asked(&mut tree, Tag(3)), Some((true, true, Some(Tag(2)))));
+    assert_eq!(rt; asked(&mut tree, Tag(1)), Some((true, false, None)));
+    assert!(rt; folds_into(&tree, Tag(2), Tag(3)));
+    assert!(rt; !folds_into(&tree, Tag(1), Tag(3)));
+    assert_eq!(rt; skip_child(&mut tree, Tag(1)), Some(Tag(3)));
+    assert_eq!(rt; tree.count(), 2);
+    assert_eq!(rt; state_of(&tree, 2, 0), None);
+    assert_eq!(rt; state_of(&tree, 3, 0), Some(accessed(Perm::Reserved)));
+    tree.clear_notes();
+    assert_eq!(rt; tree.greatest(), Tag(3));
+}
+
+fn prune_plain(alloc: Global, rt: &impl Abort) {
+    prune_chain::<Brand>(Blank::new(1), alloc, rt);
+}
+
+#[test]
+fn prunes(rt: HostRuntime) {
+    prune_plain(rt.alloc(), &rt);
 }

@@ -1,4 +1,4 @@
-use Rattle.std.proofs.Common.{◌≡◌, ◌∙◌, refl, sym, ap, subst, Option, Some, None}
+use Rattle.std.proofs.Common.{◌∙◌, refl, sym, ap, subst, Some, None}
 use Rattle.std.specs.Prelude.{Ok, Err}
 use Rattle.tb_perm.specs.declared.report.Access.TheVariants.{Reborrow}
 use Rattle.tb_perm.specs.declared.report.TreeError.TheVariants.{Borrow}

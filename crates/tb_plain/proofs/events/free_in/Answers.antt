@@ -1,13 +1,9 @@
 use Rattle.tb_perm.specs.Access.{access_event}
-use Rattle.std.proofs.Common.{◌∙◌, ap}
-use Rattle.std.specs.Option.{option_or}
 use Rattle.tb_perm.specs.declared.perm.Kind.TheVariants.{Write}
-use Rattle.tb_perm.specs.declared.report.Access.TheVariants.{Free}
-use Rattle.tb_plain.specs.Sweep.{reported}
 use Rattle.tb_perm.proofs.Kept.{Between-old_after}
 use Rattle.tb_plain.specs.Plain.{rows_in}
 use Rattle.tb_plain.proofs.Fitting.{all_sized}
-use Rattle.tb_plain.proofs.Reports.{report-fits, report-strong, dealloc-fits}
+use Rattle.tb_plain.proofs.Reports.{dealloc-fits}
 use Rattle.tb_plain.proofs.Outcomes.{outcome_moved, outcome_notes, outcome_plain, outcome_torn, outcome_refused, outcome_answer}
 use Rattle.tb_plain.proofs.events.free_in.Goals as goal
 

@@ -1,4 +1,4 @@
-use Rattle.std.proofs.Common.{◌≡◌, ◌∙◌, ◌&&◌, sym, ap, not}
+use Rattle.std.proofs.Common.{◌∙◌, ◌&&◌, sym, ap, not}
 use Rattle.tb_plain.proofs.Fitting.{below_tells, unlike}
 use Rattle.tb_plain.proofs.events.lies_below.Goals as goal
 

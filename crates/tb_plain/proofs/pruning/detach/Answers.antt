@@ -1,4 +1,4 @@
-use Rattle.std.proofs.Common.{◌≡◌, ◌≢◌, ◌∙◌, ◌⊎◌, ℕ, ap, sym, Some, true, false, inl, inr}
+use Rattle.std.proofs.Common.{◌≡◌, ◌∙◌, ap, sym, true, false, inl, inr}
 use Rattle.tb_shape.specs.Tree.{parent_of}
 use Rattle.tb_plain.specs.Pruning.{keys_of}
 use Rattle.tb_plain.proofs.TakenOut.{parent_without, parent_leaf, parent_spliced, keys_without, keys_spliced}

@@ -1,4 +1,4 @@
-use Rattle.std.proofs.Common.{◌≡◌, ◌<◌, ◌+◌, ◌≢◌, ◌∙◌, ◌⊎◌, ℕ, Bool, true, false, sym, subst, arith, inl, inr, length, slice_index_or}
+use Rattle.std.proofs.Common.{◌≡◌, ◌<◌, ◌+◌, ◌≢◌, ◌∙◌, ◌⊎◌, ℕ, Bool, true, false, sym, subst, arith, inl, inr, slice_index_or}
 use Rattle.std.proofs.lemmas.Bool.{cases_eq}
 use Rattle.tb_perm.specs.declared.perm.Perm.{Perm}
 use Rattle.tb_perm.specs.declared.perm.Perm.TheVariants.{Disabled}

@@ -1,4 +1,4 @@
-use Rattle.std.proofs.Common.{◌≡◌, ◌∙◌, sym, ap, length}
+use Rattle.std.proofs.Common.{◌∙◌, sym, ap, length}
 use Rattle.tb_plain.proofs.Fitting.{HasPlain_there, row_sized}
 use Rattle.tb_plain.proofs.Pruned.{folds_tells}
 use Rattle.tb_plain.proofs.queries.folds_in.Goals as goal

@@ -1,4 +1,4 @@
-use Rattle.std.proofs.Common.{◌≡◌, ◌<◌, arith, length, slice_index_or, None}
+use Rattle.std.proofs.Common.{◌<◌, arith, length, slice_index_or, None}
 use Rattle.tb_plain.proofs.Moves.{MovedBelow-more}
 use Rattle.tb_plain.proofs.sweep.move_states.Goals as goal
 

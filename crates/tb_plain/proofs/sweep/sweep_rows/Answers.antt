@@ -1,4 +1,4 @@
-use Rattle.std.proofs.Common.{◌∙◌, ap, arith}
+use Rattle.std.proofs.Common.{arith}
 use Rattle.std.proofs.lemmas.List.Edits.{map_over_more}
 use Rattle.tb_plain.specs.Sweep.{swept}
 use Rattle.tb_plain.proofs.sweep.sweep_rows.Goals as goal

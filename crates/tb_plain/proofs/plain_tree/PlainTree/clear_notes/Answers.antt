@@ -1,4 +1,4 @@
-use Rattle.std.proofs.Common.{◌∙◌, ap, sym, subst}
+use Rattle.std.proofs.Common.{◌∙◌, ap}
 use Rattle.tb_plain.specs.Plain.{Plain, rows_in, notes_of}
 use Rattle.tb_plain.proofs.Pruned.{rows-cleared, notes-cleared, IsPlain-same}
 use Rattle.tb_plain.proofs.plain_tree.PlainTree.clear_notes.Goals as goal

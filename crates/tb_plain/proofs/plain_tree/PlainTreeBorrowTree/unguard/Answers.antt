@@ -1,5 +1,5 @@
-use Rattle.std.proofs.Common.{◌≡◌, ◌∙◌, ap, subst}
-use Rattle.tb_perm.specs.Rows.{unguarded, IsRows}
+use Rattle.std.proofs.Common.{◌∙◌, ap}
+use Rattle.tb_perm.specs.Rows.{unguarded}
 use Rattle.tb_plain.specs.Plain.{Plain, rows_in, notes_of}
 use Rattle.tb_plain.proofs.Unguarded.{rows-unguarded, notes-unguarded, IsPlain-unguarded}
 use Rattle.tb_plain.proofs.plain_tree.PlainTreeBorrowTree.unguard.Goals as goal
