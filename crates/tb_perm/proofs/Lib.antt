@@ -2,3 +2,4 @@ pub mod Order
 pub mod Kept
 pub mod Unique
 pub mod Removed
+pub mod Roots

@@ -144,7 +144,7 @@ reverse_cut t parent (x ∷ xs) ys = at (is_tag t x) refl (reverse_cut t parent 
     at false is later = ap (λ b. reverse_aux (cut t parent xs) (map (moved_up_row t parent) (cond (not b) (x ∷ filter (λ z. not (is_tag t z)) ys) (filter (λ z. not (is_tag t z)) ys)))) (sym is) ∙ later
 
 -- a search back finds the same row
-find_back : (rows : List Row) (t : ℕ) (r : Row) → AllByRecursion (λ (row : Row). (t ≡ row.tag) → row ≡ r) rows → HasTag rows t → find (is_tag t) rows ≡ Some r
+pub find_back : (rows : List Row) (t : ℕ) (r : Row) → AllByRecursion (λ (row : Row). (t ≡ row.tag) → row ≡ r) rows → HasTag rows t → find (is_tag t) rows ≡ Some r
 find_back [] t r all has = absurd (cc)
 find_back (row ∷ rows) t r all has = at (is_tag t row) refl has (find_back rows t r all.1)
   where
@@ -152,7 +152,7 @@ find_back (row ∷ rows) t r all has = at (is_tag t row) refl has (find_back row
     at true is has later = ap Some (all.0 (sym (eqb-true row.tag t is)))
     at false is has later = later has
 
-only_row : (all rows : List Row) (t : ℕ) (r : Row) → find (is_tag t) all ≡ Some r → AllByRecursion (λ (row : Row). find (is_tag row.tag) all ≡ Some row) rows → AllByRecursion (λ (row : Row). (t ≡ row.tag) → row ≡ r) rows
+pub only_row : (all rows : List Row) (t : ℕ) (r : Row) → find (is_tag t) all ≡ Some r → AllByRecursion (λ (row : Row). find (is_tag row.tag) all ≡ Some row) rows → AllByRecursion (λ (row : Row). (t ≡ row.tag) → row ≡ r) rows
 only_row all [] t r found finds = tt
 only_row all (row ∷ rows) t r found finds =
     (λ same. one row r (sym finds.0 ∙ ap (λ k. find (is_tag k) all) (sym same) ∙ found), only_row all rows t r found finds.1)
@@ -160,7 +160,7 @@ only_row all (row ∷ rows) t r found finds =
     one : (x y : Row) → Some x ≡ Some y → x ≡ y
     one x y h = cc
 
-find_has : (rows : List Row) (t : ℕ) (r : Row) → find (is_tag t) rows ≡ Some r → HasTag rows t
+pub find_has : (rows : List Row) (t : ℕ) (r : Row) → find (is_tag t) rows ≡ Some r → HasTag rows t
 find_has [] t r found = cc
 find_has (row ∷ rows) t r found = at (is_tag t row) found (find_has rows t r)
   where

@@ -91,12 +91,12 @@ noted_others (r ∷ rows) t u differs = notes_cons (noted_plain t r) (map (noted
     at false is later = ap (λ b. (r.noted && (r.tag.0 == u)) || b) later
 
 -- the greatest tags, said of the rows of the tree
+each_in : (P : ℕ → Type 0) (tree : Keys) (rows : List PlainRow) → AllByRecursion (λ (r : PlainRow). P r.tag.0) rows → AllByRecursion (λ (row : Row). P row.tag) (rows_in tree rows)
+each_in P tree [] all = tt
+each_in P tree (x ∷ xs) all = (all.0, each_in P tree xs all.1)
+
 pub all_in : (P : ℕ → Type 0) (tree : Keys) (rows : List PlainRow) → AllByRecursion (λ (r : PlainRow). P r.tag.0) rows → All (λ (row : Row). P row.tag) (rows_in tree rows)
-all_in P tree rows all = All-from_recursion (λ (row : Row). P row.tag) (rows_in tree rows) (walk rows all)
-  where
-    walk : (xs : List PlainRow) → AllByRecursion (λ (r : PlainRow). P r.tag.0) xs → AllByRecursion (λ (row : Row). P row.tag) (rows_in tree xs)
-    walk [] all = tt
-    walk (x ∷ xs) all = (all.0, walk xs all.1)
+all_in P tree rows all = All-from_recursion (λ (row : Row). P row.tag) (rows_in tree rows) (each_in P tree rows all)
 
 pub has_tag_of : (tree : Keys) (rows : List PlainRow) (t : ℕ) → contains (tags_of rows) t ≡ true → HasTag (rows_in tree rows) t
 has_tag_of tree rows t has = any_tags (rows_in tree rows) t ∙ ap (λ ks. contains ks t) (tags-rows_in tree rows) ∙ has
@@ -242,8 +242,11 @@ greatest_all tree rows best is = all_in (λ k. k ≤ best.0) tree rows (mapped (
 pub less_all : (tree : Keys) (rows : List PlainRow) (bound best : Tag) → IsGreatest (Some bound) rows (Some best) → All (λ (row : Row). row.tag < bound.0 → row.tag ≤ best.0) (rows_in tree rows)
 less_all tree rows bound best is = all_in (λ k. k < bound.0 → k ≤ best.0) tree rows (mapped (λ (r : PlainRow). is_lesser (Some bound) r.tag ≡ true → r.tag.0 ≤ best.0) (λ (r : PlainRow). r.tag.0 < bound.0 → r.tag.0 ≤ best.0) rows (λ r below less. below (lt-ltb r.tag.0 bound.0 less)) is.2)
 
+pub none_lesser : (tree : Keys) (rows : List PlainRow) (bound : Tag) → IsGreatest (Some bound) rows None → AllByRecursion (λ (row : Row). bound.0 ≤ row.tag) (rows_in tree rows)
+none_lesser tree rows bound is = each_in (λ k. bound.0 ≤ k) tree rows (mapped (λ (r : PlainRow). is_lesser (Some bound) r.tag ≡ false) (λ (r : PlainRow). bound.0 ≤ r.tag.0) rows (λ r no_less. ltb-false r.tag.0 bound.0 no_less) is)
+
 pub none_less : (tree : Keys) (rows : List PlainRow) (bound : Tag) → IsGreatest (Some bound) rows None → All (λ (row : Row). bound.0 ≤ row.tag) (rows_in tree rows)
-none_less tree rows bound is = all_in (λ k. bound.0 ≤ k) tree rows (mapped (λ (r : PlainRow). is_lesser (Some bound) r.tag ≡ false) (λ (r : PlainRow). bound.0 ≤ r.tag.0) rows (λ r no_less. ltb-false r.tag.0 bound.0 no_less) is)
+none_less tree rows bound is = All-from_recursion (λ (row : Row). bound.0 ≤ row.tag) (rows_in tree rows) (none_lesser tree rows bound is)
 
 -- what a comparison of all bytes tells of two tags
 pub folds_tells : (tree : Keys) (rows : List PlainRow) (size t ch : ℕ) (g b : Bool) (r s : PlainRow) (xs ys : List State) → IsPlain tree rows size → find (is_plain t) rows ≡ Some r → find (is_plain ch) rows ≡ Some s → xs ≡ r.states → ys ≡ s.states

@@ -76,7 +76,7 @@ impl BorrowTree for PlainTree {
 }
 
 impl PlainTree {
-    ghost use Rattle.std.specs.Prelude.{◌≡◌, ◌≢◌, ◌≤◌, ◌<◌, ◌↔◌, ◌⊎◌, ℕ, [], All, IfSome, IfNone, IsSome, IsTrue, length, true};
+    ghost use Rattle.std.specs.Prelude.{◌≡◌, ◌≢◌, ◌≤◌, ◌<◌, ◌↔◌, ◌⊎◌, ℕ, [], All, IfSome, IfNone, IsSome, IsTrue, length, None, true};
     ghost use Rattle.tb_perm.specs.Rows.{Row, HasTag};
     ghost use Rattle.tb_perm.specs.Pruning.{is_noted, parent_in, IsLeaf, IsOnlyChild, Folds, removed, forgotten};
 
@@ -122,9 +122,11 @@ impl PlainTree {
         ensures there { IfSome result (λ found. HasTag self.now.rows found.0) }
         ensures less { IfSome result (λ found. found.0 < tag.0) }
         ensures greatest { IfSome result (λ found. All (λ (row : Row). row.tag < tag.0 → row.tag ≤ found.0) self.now.rows) }
-        ensures none { IfNone result (All (λ (row : Row). tag.0 ≤ row.tag) self.now.rows) }
+        ensures child { IfSome result (λ found. IsSome (parent_in self.now.rows tag.0)) }
+        ensures root { IfNone result (parent_in self.now.rows tag.0 ≡ None) }
+        ensures least { IfNone result (All (λ (row : Row). tag.0 ≤ row.tag) self.now.rows) }
     {
-        less_than(&self.shape, &self.rows, tag)
+        less_than(&self.shape, &self.rows, self.size, tag)
     }
 
     /// How many tags there are.

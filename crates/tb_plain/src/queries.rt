@@ -1,8 +1,8 @@
 //! What pruning asks of the rows of a tree.
 
-ghost use Rattle.std.specs.Prelude.{◌≡◌, ◌≢◌, ◌≤◌, ◌<◌, ◌↔◌, ℕ, All, IfSome, IfNone, IsTrue};
+ghost use Rattle.std.specs.Prelude.{◌≡◌, ◌≢◌, ◌≤◌, ◌<◌, ◌↔◌, ℕ, All, IfSome, IfNone, IsSome, IsTrue, None};
 ghost use Rattle.tb_perm.specs.Rows.{Row, HasTag};
-ghost use Rattle.tb_perm.specs.Pruning.{IsLeaf, IsOnlyChild, Folds};
+ghost use Rattle.tb_perm.specs.Pruning.{parent_in, IsLeaf, IsOnlyChild, Folds};
 ghost use Rattle.tb_plain.specs.Plain.{IsPlain, rows_in};
 
 use crate::events::row_at;
@@ -24,11 +24,15 @@ pub fn greatest_of(shape: &Shape, rows: &[PlainRow], size: u32) -> Tag
 }
 
 /// The greatest tag less than another.
-pub fn less_than(shape: &Shape, rows: &[PlainRow], tag: Tag) -> Option<Tag>
+pub fn less_than(shape: &Shape, rows: &[PlainRow], size: u32, tag: Tag) -> Option<Tag>
+    requires plain { IsPlain shape.now rows.now size }
+    requires tag { HasTag (rows_in shape.now rows.now) tag.0 }
     ensures there { IfSome result (λ found. HasTag (rows_in shape.now rows.now) found.0) }
     ensures less { IfSome result (λ found. found.0 < tag.0) }
     ensures greatest { IfSome result (λ found. All (λ (row : Row). row.tag < tag.0 → row.tag ≤ found.0) (rows_in shape.now rows.now)) }
-    ensures none { IfNone result (All (λ (row : Row). tag.0 ≤ row.tag) (rows_in shape.now rows.now)) }
+    ensures child { IfSome result (λ found. IsSome (parent_in (rows_in shape.now rows.now) tag.0)) }
+    ensures root { IfNone result (parent_in (rows_in shape.now rows.now) tag.0 ≡ None) }
+    ensures least { IfNone result (All (λ (row : Row). tag.0 ≤ row.tag) (rows_in shape.now rows.now)) }
 {
     match greatest_below(rows, Some(tag)) {
         Some(found) => Some(found),
