@@ -196,7 +196,7 @@ statement_lines-at number i next variables scope (statement.Print print) e h kno
     let m = length variables in
     let s = statement.Print print in
     let front = statement-front number i m next s h in
-    let known = known_sums scope variables e print.arguments is.1 in
+    let known = known_sums scope variables e print.arguments is.2 in
     let e1 = sums_lines-at number i 0 next variables print.arguments front knows known in
     let e2 = sums_operands-at number i 0 next print.arguments front in
     let e3 = clears-at number i next print.span print.arguments front in

@@ -40,7 +40,7 @@ sums_ready scope (sum ∷ list) is within = (sum_ready scope sum is.0 within.0, 
 statement_ready : (scope : List Binding) (s : Statement) → IsStatement scope s → AllByRecursion IsSumWithin (sums s) → IsStatementReady (length scope) s
 statement_ready scope (statement.Let binding) is within = sum_ready scope binding.value is.1 within.0
 statement_ready scope (statement.Assign assign) is within = (is.1.is_there, sum_ready scope assign.value is.3 within.0)
-statement_ready scope (statement.Print print) is within = sums_ready scope print.arguments is.1 within
+statement_ready scope (statement.Print print) is within = sums_ready scope print.arguments is.2 within
 
 pub are_ready : (scope : List Binding) (list : List Statement) → AreStatements scope list → AllByRecursion (λ s. AllByRecursion IsSumWithin (sums s)) list → AreReady (length scope) list
 are_ready scope [] are within = tt

@@ -90,7 +90,7 @@ statement_lines_at variables next (statement.Assign assign) =
     ∷ clears_at next (sum_locals assign.value) assign.span)
 statement_lines_at variables next (statement.Print print) =
     sums_lines_at variables next print.arguments
-    ++ (line (Print false print.text.source (sums_operands_at next print.arguments)) print.span
+    ++ (line (Print false print.text.source (sums_operands_at next print.arguments)) print.call
     ∷ clears_at next (sums_locals print.arguments) print.span)
 
 abbrev pub temp_local : Local

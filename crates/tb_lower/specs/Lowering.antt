@@ -110,7 +110,7 @@ statement_lines number i n (statement.Assign assign) =
     ∷ clears number i assign.span (assign.value ∷ []))
 statement_lines number i n (statement.Print print) =
     sums_lines number i 0 print.arguments
-    ++ (line (Print false print.text.source (sums_operands number i 0 print.arguments)) print.span
+    ++ (line (Print false print.text.source (sums_operands number i 0 print.arguments)) print.call
     ∷ clears number i print.span print.arguments)
 
 abbrev pub statements_lines : (Name → ℕ) → ℕ → ℕ → List Statement → List MirLine

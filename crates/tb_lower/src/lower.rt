@@ -309,7 +309,7 @@ impl Lowering {
         let operands = self.sums(print.arguments.as_slice())?;
         let end = self.next();
         let text = Items::from_slice(self.alloc, print.text.source.as_slice())?;
-        self.emit(Line::Print(false, text, operands), print.span)?;
+        self.emit(Line::Print(false, text, operands), print.call)?;
         self.clear(start, end, print.span)
     }
 

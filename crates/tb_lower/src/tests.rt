@@ -165,9 +165,9 @@ fn lines_and_locals(rt: HostRuntime) -> Result<(), Fail> {
 
 #[test]
 fn spans(rt: HostRuntime) -> Result<(), Fail> {
-    let source = b"fn main() { let mut x = 1 ; x = x + 2 ; }";
+    let source = b"fn main() { let mut x = 1 ; x = x + 2 ; print!( \"{}\" , x ) ; }";
     let wanted =
-        b"let mut x = 1 ;\nlet mut x = 1 ;\nx\nx + 2\nx = x + 2\nx = x + 2 ;\n{ let mut x = 1 ; x = x + 2 ; }\nfn main() { let mut x = 1 ; x = x + 2 ; }\nfn main() { let mut x = 1 ; x = x + 2 ; }\n";
+        b"let mut x = 1 ;\nlet mut x = 1 ;\nx\nx + 2\nx = x + 2\nx = x + 2 ;\nx\nprint!( \"{}\" , x )\nprint!( \"{}\" , x ) ;\n{ let mut x = 1 ; x = x + 2 ; print!( \"{}\" , x ) ; }\nfn main() { let mut x = 1 ; x = x + 2 ; print!( \"{}\" , x ) ; }\nfn main() { let mut x = 1 ; x = x + 2 ; print!( \"{}\" , x ) ; }\n";
     let mir = lowered(rt.alloc(), source)?;
     let found = pieces(rt.alloc(), source, &mir)?;
     assert_eq!(rt; found.as_slice(), wanted.as_slice());

@@ -187,10 +187,11 @@ module _ (scope : List Binding) (size : ℕ) where
       let here = text-takes size paren.0 literal.0.0 literal.0.1 literal.0.2 literal.1 in
       let format = subst (λ n. IsFormat literal.0.0.source n) (sym (eqb-true (length arguments.0.0) literal.0.1 counted.0)) here.1 in
       let sums = arguments-take scope size literal.0.2 arguments.0.0 arguments.0.1 arguments.1 in
+      let inner : Token = closing (codes ")") (size - length close.0) in
       let last : Token = closing (codes ";") (size - length end.0) in
-      let tail : Reads size literal.0.2 (flat_map (λ sum. token (codes ",") ∷ sum_tokens scope sum) arguments.0.0 ++ token (codes ")") ∷ last ∷ []) end.0 =
-      reads-then size (flat_map (λ sum. token (codes ",") ∷ sum_tokens scope sum) arguments.0.0) (token (codes ")") ∷ last ∷ []) literal.0.2 arguments.0.1 end.0 sums.0
-      (close.0, token-takes size (codes ")") arguments.0.1 close.0 close.1, (end.0, closing-takes size (codes ";") close.0 end.0 end.1, refl)) in
+      let tail : Reads size literal.0.2 (flat_map (λ sum. token (codes ",") ∷ sum_tokens scope sum) arguments.0.0 ++ inner ∷ last ∷ []) end.0 =
+      reads-then size (flat_map (λ sum. token (codes ",") ∷ sum_tokens scope sum) arguments.0.0) (inner ∷ last ∷ []) literal.0.2 arguments.0.1 end.0 sums.0
+      (close.0, closing-takes size (codes ")") arguments.0.1 close.0 close.1, (end.0, closing-takes size (codes ";") close.0 end.0 end.1, refl)) in
       let at : Print × List ℕ → Type 0 = λ y. Reads size text (print_tokens scope y.0) y.1 × IsStatement scope (statement.Print y.0) × AllByRecursion IsSumWithin y.0.arguments in
       subst at (some_is _ (found, rest) counted.1) (
         (
@@ -206,7 +207,7 @@ module _ (scope : List Binding) (size : ℕ) where
             ),
           ),
         ),
-        (format, sums.1),
+        (refl, format, sums.1),
         sums.2,
       )
 
@@ -214,26 +215,30 @@ module _ (scope : List Binding) (size : ℕ) where
       → Reads size text (print_tokens scope found) rest → print_at scope size text ≡ Some (found, rest)
   unfolding print_at
   print-again named text found rest meant within h =
+      let inner : Token = closing (codes ")") found.call.hi in
       let last : Token = closing (codes ";") found.span.hi in
       let name = token-again size text (codes "print") (Some found.span.lo) None h.0 h.1 in
       let bang = token-again size h.0 (codes "!") None None h.2.0 h.2.1 in
       let p = h.2.2 in
       let paren = token-again size h.2.0 (codes "(") None None p.0 p.1 in
       let l = p.2 in
-      let literal = text-again size p.0 found.text (length found.arguments) l.0 l.1 meant.0 in
-      let parts = reads-split size (flat_map (λ sum. token (codes ",") ∷ sum_tokens scope sum) found.arguments) (token (codes ")") ∷ last ∷ []) l.0 rest l.2 in
+      let literal = text-again size p.0 found.text (length found.arguments) l.0 l.1 meant.1 in
+      let parts = reads-split size (flat_map (λ sum. token (codes ",") ∷ sum_tokens scope sum) found.arguments) (inner ∷ last ∷ []) l.0 rest l.2 in
       let c = parts.2 in
-      let byte = token-byte size parts.0 41 None None c.0 c.1 in
+      let byte = token-byte size parts.0 41 None (Some found.call.hi) c.0 c.1 in
       let ends : ends_sum parts.0 ≡ true = rw byte refl in
       let stop : ends_arguments parts.0 ≡ true = rw byte refl in
-      let arguments = arguments-again scope size named l.0 found.arguments parts.0 meant.1 within ends stop parts.1 in
-      let close = token-again size parts.0 (codes ")") None None c.0 c.1 in
+      let arguments = arguments-again scope size named l.0 found.arguments parts.0 meant.2 within ends stop parts.1 in
+      let close = token-again size parts.0 (codes ")") None (Some found.call.hi) c.0 c.1 in
       let end = c.2 in
       let semicolon = token-again size c.0 (codes ";") None (Some found.span.hi) end.0 end.1 in
       let counted : eqb (length found.arguments) (length found.arguments) ≡ true = eq-eqb (length found.arguments) (length found.arguments) refl in
       let lo : size - length (after_space text) ≡ found.span.lo = sym h.1.lo in
       let hi : size - length end.0 ≡ found.span.hi = sym end.1.hi in
-      rw (name, bang, paren, literal, arguments, close, semicolon, counted) (rw (lo, hi, end.2) refl)
+      let call_lo : size - length (after_space text) ≡ found.call.lo = sym h.1.lo ∙ sym meant.0 in
+      let call_hi : size - length c.0 ≡ found.call.hi = sym c.1.hi in
+      let call : span_of size text c.0 ≡ found.call = rw (call_hi) (ap (λ n. record { lo = n; hi = found.call.hi }) call_lo) in
+      rw (name, bang, paren, literal, arguments, close, semicolon, counted, call) (rw (lo, hi, end.2) refl)
 
   -- statements
 
@@ -309,7 +314,7 @@ module _ (scope : List Binding) (size : ℕ) where
       let first = exact-shorter text (codes "print") (Some print.span.lo) None h.0 (omega arith) h.1 in
       let tokens : List Token =
       token (codes "!") ∷ token (codes "(") ∷ spanned print.text.span (literal print.text.source)
-      ∷ (flat_map (λ sum. token (codes ",") ∷ sum_tokens scope sum) print.arguments ++ (token (codes ")") ∷ closing (codes ";") print.span.hi ∷ [])) in
+      ∷ (flat_map (λ sum. token (codes ",") ∷ sum_tokens scope sum) print.arguments ++ (closing (codes ")") print.call.hi ∷ closing (codes ";") print.span.hi ∷ [])) in
       let others = reads-shrinks size tokens h.0 rest h.2 in
       omega arith
   statement-shorter text (statement.Assign assign) rest h =

@@ -149,7 +149,7 @@ print_tokens scope print =
     opening print.span.lo (codes "print") ∷ token (codes "!") ∷ token (codes "(")
     ∷ spanned print.text.span (literal print.text.source)
     ∷ (flat_map (λ sum. token (codes ",") ∷ sum_tokens scope sum) print.arguments
-    ++ (token (codes ")") ∷ closing (codes ";") print.span.hi ∷ []))
+    ++ (closing (codes ")") print.call.hi ∷ closing (codes ";") print.span.hi ∷ []))
 
 -- a statement behind these `let`s
 abbrev pub statement_tokens : List Binding → Statement → List Token
@@ -158,7 +158,7 @@ statement_tokens scope (statement.Assign assign) = assign_tokens scope assign
 statement_tokens scope (statement.Print print) = print_tokens scope print
 
 -- the names are names, each variable means a `let` before, what is assigned has `mut`, and a text
--- takes as many arguments as there are
+-- takes as many arguments as there are; an assignment begins with its target, a print with its call
 abbrev pub IsStatement : List Binding → Statement → Type 0
 IsStatement scope (statement.Let binding) =
     (is_name binding.name.bytes ≡ true) × IsSum scope binding.value
@@ -166,7 +166,7 @@ IsStatement scope (statement.Assign assign) =
     (assign.span.lo ≡ assign.target.span.lo) × IsMeant scope assign.target.number
     × (is_mutable scope assign.target.number ≡ true) × IsSum scope assign.value
 IsStatement scope (statement.Print print) =
-    IsFormat print.text.source (length print.arguments)
+    (print.call.lo ≡ print.span.lo) × IsFormat print.text.source (length print.arguments)
     × AllByRecursion (IsSum scope) print.arguments
 
 -- statements one after the other, each behind the `let`s of those before

@@ -237,7 +237,7 @@ print_at scope size text = do
   arguments ← arguments_at scope size literal.2
   close ← eat (codes ")") arguments.1
   rest ← eat (codes ";") close
-  if length arguments.0 == literal.1 then Some (record { span = span_of size text rest; text = literal.0; arguments = arguments.0 }, rest) else None
+  if length arguments.0 == literal.1 then Some (record { span = span_of size text rest; call = span_of size text close; text = literal.0; arguments = arguments.0 }, rest) else None
 
 -- a word with `!` behind it
 abbrev pub is_call : List ℕ → Bool

@@ -129,10 +129,12 @@ fn print_at<'a>(
     if arguments.len() != holes {
         return Err(SmallError::NotBuilt);
     }
+    let call = span_of(size, text, semicolon);
     let span = span_of(size, text, rest);
     Ok((
         Print {
             span,
+            call,
             text: literal,
             arguments,
         },

@@ -342,6 +342,7 @@ fn spans(rt: HostRuntime) -> Result<(), Fail> {
     assert!(rt; matches!(&statements[2], Statement::Print(_)));
     if let Statement::Print(print) = &statements[2] {
         assert_eq!(rt; print.span, Span { lo: 46, hi: 70 });
+        assert_eq!(rt; print.call, Span { lo: 46, hi: 68 });
         assert_eq!(rt; print.text.span, Span { lo: 55, hi: 61 });
         assert_eq!(rt; print.arguments.len(), 1);
     }

@@ -58,6 +58,8 @@ pub struct Assign {
 pub struct Print {
     /// From `print` to the semicolon.
     pub span: Span,
+    /// The macro alone: from `print` to the parenthesis that closes it.
+    pub call: Span,
     pub text: Text,
     /// One for each `{}` of the text, in its order.
     pub arguments: Items<Sum>,

@@ -7,7 +7,6 @@ use Rattle.tb_eval.specs.Run.{whole_run}
 use Rattle.tb_lower.specs.Lowering.{Realises}
 use Rattle.tb_mir.specs.declared.mir.Mir.{Mir}
 use Rattle.tb_parse.specs.Grammar.{IsSmall}
-use Rattle.tb_perm.specs.declared.code.Code.TheVariants as code
 use Rattle.tb_top.specs.declared.halt.Halt.{Halt}
 use Rattle.tb_top.specs.declared.halt.Halt.TheVariants as halt
 use Rattle.tb_top.specs.Output.{Output, halted, ran, IsSource, IsOutput, Usage, TooLong, NotBuilt, Ran, Tells, EachOutput}
@@ -80,7 +79,7 @@ usage_ended words old new h = record {
 }
 
 -- no source that is too long has another report
-too_long_err : (words : List (List ℕ)) (old new : Seen) (output : Output) → ReadTooLong words old new → IsOutput words old.told output → output.err ≡ line_of (halt.Refused code.S2)
+too_long_err : (words : List (List ℕ)) (old new : Seen) (output : Output) → ReadTooLong words old new → IsOutput words old.told output → output.err ≡ line_of halt.TooLong
 too_long_err words old new output h (Usage e) = absurd (not_both words h.read.name h.read.opened.named e)
 too_long_err words old new output h (TooLong source is size) = refl
 too_long_err words old new output h (NotBuilt source is size no_tree) =
@@ -88,17 +87,17 @@ too_long_err words old new output h (NotBuilt source is size no_tree) =
 too_long_err words old new output h (Ran source is size tree related mir realised) =
     absurd (let e = same_source words old new h.source source h.read is in let l = h.size in let m = ap length e in omega arith)
 
-pub too_long_ended : (words : List (List ℕ)) (old new : Seen) → ReadTooLong words old new → Ended words old new (halt.Refused code.S2)
+pub too_long_ended : (words : List (List ℕ)) (old new : Seen) → ReadTooLong words old new → Ended words old new halt.TooLong
 too_long_ended words old new h =
     record {
       read_failed = λ rose. absurd (let e = h.read.faults in omega arith);
       out_front = quiet words old new h.out;
       err = inl (λ output is. too_long_err words old new output h is);
-      answer = λ no tells calm quiet. answered_halt words old new (halt.Refused code.S2) (TooLong h.source (told_source words old new h.source h.read tells) h.size) h.out;
+      answer = λ no tells calm quiet. answered_halt words old new halt.TooLong (TooLong h.source (told_source words old new h.source h.read tells) h.size) h.out;
     }
 
 -- no source without a tree has another report
-no_tree_err : (words : List (List ℕ)) (old new : Seen) (output : Output) → HasNoTree words old new → IsOutput words old.told output → output.err ≡ line_of (halt.Refused code.U1)
+no_tree_err : (words : List (List ℕ)) (old new : Seen) (output : Output) → HasNoTree words old new → IsOutput words old.told output → output.err ≡ line_of halt.NotBuilt
 no_tree_err words old new output h (Usage e) = absurd (not_both words h.read.name h.read.opened.named e)
 no_tree_err words old new output h (TooLong source is size) =
     absurd (let e = same_source words old new h.source source h.read is in let l = h.size in let m = ap length e in omega arith)
@@ -106,13 +105,13 @@ no_tree_err words old new output h (NotBuilt source is size no_tree) = refl
 no_tree_err words old new output h (Ran source is size tree related mir realised) =
     absurd (h.unrelated tree (subst (λ s. IsSmall s tree) (same_source words old new h.source source h.read is) related))
 
-pub no_tree_ended : (words : List (List ℕ)) (old new : Seen) → HasNoTree words old new → Ended words old new (halt.Refused code.U1)
+pub no_tree_ended : (words : List (List ℕ)) (old new : Seen) → HasNoTree words old new → Ended words old new halt.NotBuilt
 no_tree_ended words old new h =
     record {
       read_failed = λ rose. absurd (let e = h.read.faults in omega arith);
       out_front = quiet words old new h.out;
       err = inl (λ output is. no_tree_err words old new output h is);
-      answer = λ no tells calm quiet. answered_halt words old new (halt.Refused code.U1) (NotBuilt h.source (told_source words old new h.source h.read tells) h.size h.unrelated) h.out;
+      answer = λ no tells calm quiet. answered_halt words old new halt.NotBuilt (NotBuilt h.source (told_source words old new h.source h.read tells) h.size h.unrelated) h.out;
     }
 
 pub read_fault_ended : (words : List (List ℕ)) (old new : Seen) → FailedToRead words old new → Ended words old new halt.ReadFault
@@ -183,8 +182,8 @@ run_ended words old new why h = record {
 -- each end in turn
 pub ended : (A : Type 0) (words : List (List ℕ)) (old new : Seen) (why : Halt) → ComesTo {A = A} words old new (Err why) → Ended words old new why
 ended A words old new halt.Usage h = usage_ended words old new h
-ended A words old new (halt.Refused code.S2) h = too_long_ended words old new h
-ended A words old new (halt.Refused code.U1) h = no_tree_ended words old new h
+ended A words old new halt.TooLong h = too_long_ended words old new h
+ended A words old new halt.NotBuilt h = no_tree_ended words old new h
 ended A words old new (halt.Undefined report) h = run_ended words old new (halt.Undefined report) h
 ended A words old new (halt.Panic report) h = run_ended words old new (halt.Panic report) h
 ended A words old new halt.ReadFault h = read_fault_ended words old new h

@@ -15,7 +15,8 @@ line_front why old new before now status (inr cut) = cut.front
 
 -- the status of want of memory is no other's
 memory_of : (why : Halt) → status_of why ≡ 8 → why ≡ halt.Memory
-memory_of (halt.Refused c) e = absurd (omega arith)
+memory_of halt.TooLong e = absurd (omega arith)
+memory_of halt.NotBuilt e = absurd (omega arith)
 memory_of (halt.Undefined report) e = absurd (omega arith)
 memory_of (halt.Panic report) e = absurd (omega arith)
 memory_of halt.ReadFault e = absurd (omega arith)
@@ -24,7 +25,8 @@ memory_of halt.Memory e = refl
 memory_of halt.Usage e = absurd (omega arith)
 
 memory_of_cut : (why : Halt) → cut_status_of why ≡ 8 → why ≡ halt.Memory
-memory_of_cut (halt.Refused c) e = absurd (omega arith)
+memory_of_cut halt.TooLong e = absurd (omega arith)
+memory_of_cut halt.NotBuilt e = absurd (omega arith)
 memory_of_cut (halt.Undefined report) e = absurd (omega arith)
 memory_of_cut (halt.Panic report) e = absurd (omega arith)
 memory_of_cut halt.ReadFault e = absurd (omega arith)
@@ -45,9 +47,12 @@ read_line why old new before now status reports e = inl (subst (λ w. GrewByPref
 
 -- the line of a call that failed
 fault_line : (why : Halt) (old new : Option (List ℕ)) → (status_of why ≡ 6) ⊎ (status_of why ≡ 7) ⊎ (status_of why ≡ 8) → GrewByPrefix old new (line_of why) → FrontOfFaultLine old new
-fault_line (halt.Refused c) old new (inl e) front = absurd (omega arith)
-fault_line (halt.Refused c) old new (inr (inl e)) front = absurd (omega arith)
-fault_line (halt.Refused c) old new (inr (inr e)) front = absurd (omega arith)
+fault_line halt.TooLong old new (inl e) front = absurd (omega arith)
+fault_line halt.NotBuilt old new (inl e) front = absurd (omega arith)
+fault_line halt.TooLong old new (inr (inl e)) front = absurd (omega arith)
+fault_line halt.NotBuilt old new (inr (inl e)) front = absurd (omega arith)
+fault_line halt.TooLong old new (inr (inr e)) front = absurd (omega arith)
+fault_line halt.NotBuilt old new (inr (inr e)) front = absurd (omega arith)
 fault_line (halt.Undefined report) old new (inl e) front = absurd (omega arith)
 fault_line (halt.Undefined report) old new (inr (inl e)) front = absurd (omega arith)
 fault_line (halt.Undefined report) old new (inr (inr e)) front = absurd (omega arith)

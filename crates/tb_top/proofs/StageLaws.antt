@@ -43,7 +43,8 @@ ran_to A words old new source mir (Err halt.WriteFault) lowered ends =
 ran_to A words old new source mir (Err halt.Memory) lowered ends =
     inr (record { source = source; mir = mir; lowered = lowered; put = ends.told; faults = ends.calm })
 ran_to A words old new source mir (Err halt.Usage) lowered ends = absurd ends
-ran_to A words old new source mir (Err (halt.Refused why)) lowered ends = absurd ends
+ran_to A words old new source mir (Err halt.TooLong) lowered ends = absurd ends
+ran_to A words old new source mir (Err halt.NotBuilt) lowered ends = absurd ends
 ran_to A words old new source mir (Err halt.ReadFault) lowered ends = absurd ends
 
 -- a run that came to its own end
@@ -79,5 +80,6 @@ concluded A source run before after outcome.StepLimit (Err halt.Memory) runs is 
 concluded A source run before after outcome.WriteFault (Err halt.Memory) runs is = absurd (is refl)
 concluded A source run before after outcome.Memory (Err halt.Memory) runs is = runs
 concluded A source run before after end (Err halt.Usage) runs is = absurd is
-concluded A source run before after end (Err (halt.Refused why)) runs is = absurd is
+concluded A source run before after end (Err halt.TooLong) runs is = absurd is
+concluded A source run before after end (Err halt.NotBuilt) runs is = absurd is
 concluded A source run before after end (Err halt.ReadFault) runs is = absurd is

@@ -17,7 +17,8 @@ Concludes source end (Err (halt.Panic report)) = (report_of source end ≡ repor
 Concludes source end (Err halt.WriteFault) = end ≡ outcome.WriteFault
 Concludes source end (Err halt.Memory) = end ≢ outcome.WriteFault
 Concludes source end (Err halt.Usage) = ⊥
-Concludes source end (Err (halt.Refused code)) = ⊥
+Concludes source end (Err halt.TooLong) = ⊥
+Concludes source end (Err halt.NotBuilt) = ⊥
 Concludes source end (Err halt.ReadFault) = ⊥
 
 -- the run ended with this status and this report, and all that it printed was put out
@@ -34,5 +35,6 @@ RunEnds source run before after (Err (halt.Panic report)) = ReportsAs source run
 RunEnds source run before after (Err halt.WriteFault) = PutsFront before after run.printed
 RunEnds source run before after (Err halt.Memory) = RunsOut run before after
 RunEnds source run before after (Err halt.Usage) = ⊥
-RunEnds source run before after (Err (halt.Refused code)) = ⊥
+RunEnds source run before after (Err halt.TooLong) = ⊥
+RunEnds source run before after (Err halt.NotBuilt) = ⊥
 RunEnds source run before after (Err halt.ReadFault) = ⊥

@@ -10,7 +10,6 @@ use Rattle.tb_lower.specs.Lowering.{Realises}
 use Rattle.tb_mir.specs.declared.mir.Mir.{Mir}
 use Rattle.tb_parse.specs.declared.tree.SmallTree.{SmallTree}
 use Rattle.tb_parse.specs.Grammar.{IsSmall}
-use Rattle.tb_perm.specs.declared.code.Code.TheVariants as code
 use Rattle.tb_top.specs.declared.halt.Halt.{Halt}
 use Rattle.tb_top.specs.declared.halt.Halt.TheVariants as halt
 use Rattle.tb_top.specs.Report.{line_of, status_of}
@@ -54,8 +53,8 @@ pub record IsSource (words : List (List ℕ)) (told : Option FilesTold) (source 
 -- The output of these words, over files that tell this. Each case excludes the ones before it.
 pub data IsOutput (words : List (List ℕ)) (told : Option FilesTold) : Output → Type 0 where
   Usage : file_of words ≡ None → IsOutput words told (halted halt.Usage)
-  TooLong : (source : List ℕ) → IsSource words told source → longest < length source → IsOutput words told (halted (halt.Refused code.S2))
-  NotBuilt : (source : List ℕ) → IsSource words told source → length source ≤ longest → ((tree : SmallTree) → IsSmall source tree → ⊥) → IsOutput words told (halted (halt.Refused code.U1))
+  TooLong : (source : List ℕ) → IsSource words told source → longest < length source → IsOutput words told (halted halt.TooLong)
+  NotBuilt : (source : List ℕ) → IsSource words told source → length source ≤ longest → ((tree : SmallTree) → IsSmall source tree → ⊥) → IsOutput words told (halted halt.NotBuilt)
   Ran : (source : List ℕ) → IsSource words told source → length source ≤ longest → (tree : SmallTree) → IsSmall source tree → (mir : Mir) → Realises tree mir → IsOutput words told (ran source (whole_run mir))
 
 -- the words name no file, or the files tell what they hold

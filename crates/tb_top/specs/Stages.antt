@@ -8,7 +8,6 @@ use Rattle.tb_lower.specs.Lowering.{Realises}
 use Rattle.tb_mir.specs.declared.mir.Mir.{Mir}
 use Rattle.tb_parse.specs.declared.tree.SmallTree.{SmallTree}
 use Rattle.tb_parse.specs.Grammar.{IsSmall}
-use Rattle.tb_perm.specs.declared.code.Code.TheVariants as code
 use Rattle.tb_top.specs.declared.halt.Halt.{Halt}
 use Rattle.tb_top.specs.declared.halt.Halt.TheVariants as halt
 use Rattle.tb_top.specs.Output.{longest, status_of_end}
@@ -112,8 +111,8 @@ pub record RanOutBefore (words : List (List ℕ)) (old new : Seen) : Type 0 wher
 abbrev pub ComesTo : {A : Type 0} → List (List ℕ) → Seen → Seen → Result A Halt → Type 0
 ComesTo words old new (Ok answer) = RunsTo words old new 0 []
 ComesTo words old new (Err halt.Usage) = TouchesNothing words old new
-ComesTo words old new (Err (halt.Refused code.S2)) = ReadTooLong words old new
-ComesTo words old new (Err (halt.Refused code.U1)) = HasNoTree words old new
+ComesTo words old new (Err halt.TooLong) = ReadTooLong words old new
+ComesTo words old new (Err halt.NotBuilt) = HasNoTree words old new
 ComesTo words old new (Err halt.ReadFault) = FailedToRead words old new
 ComesTo words old new (Err halt.WriteFault) = CutShort words old new
 ComesTo words old new (Err halt.Memory) = RanOutBefore words old new ⊎ RanOutAfter words old new

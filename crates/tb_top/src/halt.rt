@@ -3,15 +3,16 @@ ghost use Rattle.std.specs.Prelude.{◌≡◌};
 use crate::read::ReadError;
 use sqlite_items::Items;
 use tb_parse::SmallError;
-use tb_perm::Code;
 
 /// Why a call ends without finishing.
 #[derive(Debug, Drop)]
 pub enum Halt {
     /// The words name no file.
     Usage,
-    /// The source is refused.
-    Refused(Code),
+    /// The source is refused: it is too long.
+    TooLong,
+    /// The source is refused: it is outside what is built so far.
+    NotBuilt,
     /// The run is undefined behaviour, with this report.
     Undefined(Items<u8>),
     /// The run panics, with this report.
@@ -33,8 +34,8 @@ impl Halt {
     {
         match self {
             Halt::Usage => b"usage: tbmiri FILE\n",
-            Halt::Refused(Code::S2) => b"refused S2: source too long\n",
-            Halt::Refused(Code::U1) => b"refused U1: not built yet at 1:1-1:1\n",
+            Halt::TooLong => b"refused S2: source too long\n",
+            Halt::NotBuilt => b"refused U1: not built yet at 1:1-1:1\n",
             Halt::Undefined(report) | Halt::Panic(report) => report.as_slice(),
             Halt::ReadFault => b"read fault\n",
             Halt::WriteFault => b"write fault\n",
@@ -48,7 +49,7 @@ impl Halt {
     {
         match self {
             Halt::Undefined(_) => 1,
-            Halt::Refused(_) => 2,
+            Halt::TooLong | Halt::NotBuilt => 2,
             Halt::Panic(_) => 3,
             Halt::ReadFault => 6,
             Halt::WriteFault => 7,
@@ -77,7 +78,7 @@ impl From<ReadError> for Halt {
 
     fn from(error: ReadError) -> Halt {
         match error {
-            ReadError::TooLong => Halt::Refused(Code::S2),
+            ReadError::TooLong => Halt::TooLong,
             ReadError::Fault => Halt::ReadFault,
             ReadError::Memory => Halt::Memory,
         }
@@ -92,7 +93,7 @@ impl From<SmallError> for Halt {
 
     fn from(error: SmallError) -> Halt {
         match error {
-            SmallError::NotBuilt => Halt::Refused(Code::U1),
+            SmallError::NotBuilt => Halt::NotBuilt,
             SmallError::Memory => Halt::Memory,
         }
     }
