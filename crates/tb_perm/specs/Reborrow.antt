@@ -34,7 +34,7 @@ is_cell Disabled = false
 -- the new tag's permission at a byte
 abbrev pub new_perm : NewTag → ℕ → Perm
 new_perm new byte =
-    cond (is_within new.lo new.hi byte) (cond (is_in_cells new.cells.items byte) Cell new.perm) new.outside
+    cond (is_within new.lo new.hi byte) (cond (is_in_cells new.cells byte) Cell new.perm) new.outside
 
 -- a byte starts accessed where it lies in the range and is not Cell
 abbrev pub starts_accessed : NewTag → ℕ → Bool

@@ -72,7 +72,7 @@ pub trait BorrowTree: Drop {
         requires above { All (λ (row : Row). row.tag < new.tag.0) (rows self.old) }
         requires range { new.lo ≤ new.hi }
         requires end { new.hi ≤ extent self.old }
-        requires cells { AreCells new.lo new.hi new.cells.items }
+        requires cells { AreCells new.lo new.hi new.cells }
 
         ensures moved { OnOk result (rows self.new ≡ reborrowed (rows self.old) (extent self.old) new) }
         ensures answer { Answers (reborrow_report (rows self.old) (extent self.old) new) result }

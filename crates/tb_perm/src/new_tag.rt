@@ -1,6 +1,7 @@
 use crate::perm::{Guard, Perm};
 use crate::span::Span;
 use crate::tag::Tag;
+use sqlite_items::Items;
 
 /// Bytes that lie in a `Cell` or `UnsafeCell`: from `lo` on, and up to before `hi`.
 #[derive(Clone, Copy, Debug, PartialEq, Eq)]
@@ -21,7 +22,7 @@ pub struct NewTag {
     pub hi: u32,
     pub perm: Perm,
     pub outside: Perm,
-    pub cells: Vec<CellRange>,
+    pub cells: Items<CellRange>,
     pub guard: Guard,
     pub made: Span,
 }

@@ -4,6 +4,7 @@ ghost use Rattle.tb_perm.specs.Reborrow.{AreCells};
 
 use crate::choice::row_of;
 use crate::plain_tree::PlainTree;
+use sqlite_items::Items;
 use std::alloc::Global;
 use std::marker::Brand;
 use std::process::Abort;
@@ -142,7 +143,7 @@ fn play_retag<L: Ledger>(
         hi: child.hi,
         perm: child.perm,
         outside: child.outside,
-        cells,
+        cells: Items::from_vec(cells),
         guard: child.guard,
         made: child.made,
     };
@@ -652,7 +653,7 @@ fn reborrows<T: BorrowTree, L: Ledger>(
         hi: 4,
         perm: Perm::Reserved,
         outside: Perm::Reserved,
-        cells: Vec::new(alloc),
+        cells: Items::new(alloc),
         guard: Guard::Free,
         made: SECOND,
     };
