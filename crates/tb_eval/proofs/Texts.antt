@@ -1,6 +1,6 @@
 -- What a text puts, by what stands at its front.
 use Rattle.std.proofs.Common.{◌≡◌, ◌<◌, ℕ, ℤ, Result, Ok, Err, true, false, List, [], ◌∷◌, ◌++◌, length, drop, get_or, refl, arith}
-use Rattle.tb_eval.specs.declared.outcome.Stop.{Stop}
+use Rattle.tb_heap.specs.declared.stop.Stop.{Stop}
 use Rattle.tb_eval.specs.Print.{begins, put_text, next_shown, after_next}
 
 -- nothing

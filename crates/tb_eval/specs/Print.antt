@@ -5,7 +5,7 @@ use Rattle.std.specs.Fmt.{signed_decimal}
 use Rattle.tb_mir.specs.declared.operand.Operand.{Operand}
 use Rattle.tb_eval.specs.Value.{int_operand}
 use Rattle.tb_eval.specs.declared.value.Slot.{Slot}
-use Rattle.tb_eval.specs.declared.outcome.Stop.{Stop}
+use Rattle.tb_heap.specs.declared.stop.Stop.{Stop}
 use Rattle.tb_eval.specs.declared.print.PrintError.{PrintError}
 use Rattle.tb_eval.specs.declared.print.PrintError.TheVariants.{Stop as Stopped, Memory}
 

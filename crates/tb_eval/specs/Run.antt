@@ -2,8 +2,7 @@
 use Rattle.std.specs.Prelude.{ℕ, zero, suc, ◌+◌, List, [], ◌++◌, length}
 use Rattle.tb_mir.specs.Mir.{lines_of}
 use Rattle.tb_mir.specs.declared.mir.Mir.{Mir}
-use Rattle.tb_eval.specs.Step.{Turn, Goes, Over, step_of, first_frame}
-use Rattle.tb_eval.specs.declared.frame.Frame.{Frame}
+use Rattle.tb_eval.specs.Step.{Turn, Goes, Over, State, step_of, first_state}
 use Rattle.tb_eval.specs.declared.outcome.Outcome.{Outcome}
 use Rattle.tb_eval.specs.declared.outcome.Outcome.TheVariants.{StepLimit}
 
@@ -17,14 +16,14 @@ pub record Run : Type 0 where
 abbrev pub preceded : List ℕ → Run → Run
 preceded bytes run = record { printed = bytes ++ run.printed; end = run.end; steps = run.steps + 1 }
 
-abbrev pub continued : Turn → (Frame → Run) → Run
-continued (Goes frame bytes) rest = preceded bytes (rest frame)
+abbrev pub continued : Turn → (State → Run) → Run
+continued (Goes state bytes) rest = preceded bytes (rest state)
 continued (Over outcome) rest = record { printed = []; end = outcome; steps = 1 }
 
--- the run from a frame, of at most this many steps
-unfoldable pub run_of : Mir → Frame → ℕ → Run
-run_of mir frame zero = record { printed = []; end = StepLimit; steps = 0 }
-run_of mir frame (suc bound) = continued (step_of mir frame) (λ next. run_of mir next bound)
+-- the run from a state, of at most this many steps
+unfoldable pub run_of : Mir → State → ℕ → Run
+run_of mir state zero = record { printed = []; end = StepLimit; steps = 0 }
+run_of mir state (suc bound) = continued (step_of mir state) (λ next. run_of mir next bound)
 
 -- More steps than the first function has lines. Nothing jumps back so far, so no run takes as many.
 abbrev pub ample : Mir → ℕ
@@ -32,4 +31,4 @@ ample mir = suc (length (lines_of mir 0 0))
 
 -- the whole run of a program
 abbrev pub whole_run : Mir → Run
-whole_run mir = run_of mir (first_frame mir) (ample mir)
+whole_run mir = run_of mir (first_state mir) (ample mir)

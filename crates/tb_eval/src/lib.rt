@@ -8,9 +8,9 @@ mod print;
 mod value;
 
 pub use frame::Frame;
-pub use outcome::{EvalError, Outcome, Panic, Stop};
+pub use outcome::{EvalError, Outcome, Panic};
 pub use print::{PrintError, print_text};
-pub use value::{Slot, Value, operand, place, rvalue};
+pub use value::{Slot, operand, place, pointer, rvalue, variable};
 
 #[cfg(test)]
 mod tests;

@@ -1,13 +1,5 @@
+use tb_heap::Stop;
 use tb_perm::Span;
-
-/// Why a run is undefined behaviour.
-#[derive(Clone, Copy, Debug, PartialEq, Eq)]
-pub enum Stop {
-    /// An access to memory that is not live.
-    Dangling,
-    /// A byte that has no value was needed.
-    Uninit,
-}
 
 /// Why a run panics.
 #[derive(Clone, Copy, Debug, PartialEq, Eq)]
@@ -20,6 +12,7 @@ pub enum Panic {
 #[derive(Clone, Copy, Debug, PartialEq, Eq)]
 pub enum Outcome {
     Finished,
+    /// Undefined behaviour. Want of memory never stands here.
     Undefined(Stop, Span),
     Panic(Panic, Span),
     /// The bound on steps was met.

@@ -3,9 +3,9 @@ ghost use Rattle.std.specs.Prelude.{◌≡◌, ◌<◌, ◌++◌, length, IfOk, 
 ghost use Rattle.std.specs.Fmt.{signed_decimal};
 ghost use Rattle.tb_eval.specs.Print.{begins, put_text, next_shown, after_next, printed, PrintsAs, IntsAre, ints_of, ended};
 
-use crate::outcome::Stop;
 use crate::value::{Slot, int};
 use std::alloc::{AllocError, AllocFailed, Global};
+use tb_heap::Stop;
 use tb_mir::Operand;
 
 /// Why a print was not put together.

@@ -1,15 +1,26 @@
-use crate::{EvalError, Panic, PrintError, Slot, Stop, Value, operand, place, print_text, rvalue};
+use crate::{EvalError, Panic, PrintError, Slot, operand, place, print_text, rvalue};
 use std::test::Fail;
-use tb_mir::{Base, BinOp, Constant, Operand, Place, Rvalue};
+use tb_heap::{Stop, Value};
+use tb_mir::{Base, BinOp, Constant, Operand, Place, RefKind, Rvalue};
+use tb_perm::{AllocId, Prov, Tag};
 
-/// A dead variable, one without a value, two integers, `()`, and the least integer.
-const LOCALS: [Slot; 6] = [
+const AT: Prov = Prov {
+    alloc: AllocId(1),
+    tag: Tag(2),
+};
+
+/// A dead variable, a temporary without a value, two with integers, `()`, the least integer, a live
+/// variable, a pointer, and a pointer to nothing.
+const LOCALS: [Slot; 9] = [
     Slot::Dead,
     Slot::Empty,
     Slot::Holds(Value::Int(2_147_483_646)),
     Slot::Holds(Value::Int(-7)),
     Slot::Holds(Value::Unit),
     Slot::Holds(Value::Int(-2_147_483_648)),
+    Slot::Live(AT),
+    Slot::Holds(Value::Pointer(Some(AT))),
+    Slot::Holds(Value::Pointer(None)),
 ];
 
 const ONE: Operand = Operand::Const(Constant::Int(1));
@@ -18,20 +29,40 @@ const UNIT: Operand = Operand::Const(Constant::Unit);
 
 #[test]
 fn operands_and_places(rt: HostRuntime) {
+    let none = Err(Stop::Uninit);
     let rows = [
-        (0, Err(Stop::Uninit), Err(Stop::Dangling)),
-        (1, Err(Stop::Uninit), Err(Stop::Uninit)),
-        (3, Ok(Value::Int(-7)), Ok(Value::Int(-7))),
-        (4, Ok(Value::Unit), Ok(Value::Unit)),
-        (6, Err(Stop::Uninit), Err(Stop::Dangling)),
+        (0, none, None, none),
+        (1, none, None, none),
+        (3, Ok(Value::Int(-7)), None, none),
+        (4, Ok(Value::Unit), None, none),
+        (6, none, Some(AT), none),
+        (7, Ok(Value::Pointer(Some(AT))), None, Ok(Some(AT))),
+        (8, Ok(Value::Pointer(None)), None, Ok(None)),
+        (9, none, None, none),
     ];
-    for (local, temp, variable) in rows {
+    for (local, temp, variable, pointee) in rows {
         let base = Base::Variable(local);
         assert_eq!(rt; operand(&LOCALS, Operand::Temp(local)), temp);
-        assert_eq!(rt; place(&LOCALS, Place { base }), variable);
+        assert_eq!(rt; place(&LOCALS, Place { base }), Ok(variable));
+        let base = Base::Deref(local);
+        assert_eq!(rt; place(&LOCALS, Place { base }), pointee);
     }
     assert_eq!(rt; operand(&LOCALS, ONE), Ok(Value::Int(1)));
     assert_eq!(rt; operand(&LOCALS, UNIT), Ok(Value::Unit));
+}
+
+#[test]
+fn borrows(rt: HostRuntime) {
+    let at = Ok(Value::Pointer(Some(AT)));
+    let rows = [
+        (Base::Variable(6), at),
+        (Base::Variable(0), Ok(Value::Pointer(None))),
+        (Base::Deref(7), at),
+        (Base::Deref(1), Err(EvalError::Stop(Stop::Uninit))),
+    ];
+    for (base, wanted) in rows {
+        assert_eq!(rt; rvalue(&LOCALS, Rvalue::Ref(RefKind::Mut, Place { base })), wanted);
+    }
 }
 
 #[test]

@@ -1,1 +1,2 @@
 pub mod Mir
+pub mod Ty

@@ -8,7 +8,7 @@ mod operand;
 
 pub use line::{Line, MirLine};
 pub use mir::{Block, Func, Local, LocalKind, Mir, Ty};
-pub use operand::{Base, BinOp, Constant, Operand, Place, Rvalue};
+pub use operand::{Base, BinOp, Constant, Operand, Place, RefKind, Rvalue};
 
 #[cfg(test)]
 mod tests;

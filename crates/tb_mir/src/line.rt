@@ -20,6 +20,8 @@ pub enum Line {
     Print(bool, Items<u8>, Items<Operand>),
     /// Takes the values of temporaries away.
     Clear(Items<u32>),
+    /// Retags the reference in a temporary: it gets a tag of its own.
+    Retag(u32),
     /// Ends the function.
     Return,
 }

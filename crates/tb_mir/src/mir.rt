@@ -1,4 +1,5 @@
 use crate::line::MirLine;
+use crate::operand::RefKind;
 use sqlite_items::Items;
 use tb_perm::Span;
 
@@ -9,6 +10,24 @@ pub enum Ty {
     Unit,
     /// `i32`.
     Int32,
+    /// A pointer of this kind to an `i32`.
+    Pointer(RefKind),
+}
+
+impl Ty {
+    ghost use Rattle.std.specs.Prelude.{◌≡◌};
+    ghost use Rattle.tb_mir.specs.Ty.{size_of};
+
+    /// How many bytes a value has (Rust Reference, type layout).
+    pub fn size(self) -> u32
+        ensures { result ≡ size_of self }
+    {
+        match self {
+            Ty::Unit => 0,
+            Ty::Int32 => 4,
+            Ty::Pointer(_) => 8,
+        }
+    }
 }
 
 /// How a local is kept: a variable lives in memory, a temporary beside it.
@@ -16,6 +35,8 @@ pub enum Ty {
 pub enum LocalKind {
     Variable,
     Temp,
+    /// A temporary for the pointer of a place that is dereferenced. It is never retagged.
+    PlaceTemp,
 }
 
 /// A local of a function.
@@ -51,7 +72,7 @@ pub struct Mir {
 impl Mir {
     ghost use Rattle.std.specs.Prelude.{◌≡◌, ◌<◌, ◌+◌, ◌^◌, OnSome};
     ghost use Rattle.std.specs.Option.{option_copied};
-    ghost use Rattle.tb_mir.specs.Mir.{line_at, lines_of};
+    ghost use Rattle.tb_mir.specs.Mir.{line_at, lines_of, locals_of};
 
     /// The lines of a block of a function. There are none where the function or the block is not
     /// there.
@@ -63,6 +84,16 @@ impl Mir {
         };
         match func.blocks.get(block as usize) {
             Some(block) => block.lines.as_slice(),
+            None => &[],
+        }
+    }
+
+    /// The locals of a function. There are none where the function is not there.
+    pub fn locals(&self, func: u32) -> &[Local]
+        ensures { result.now ≡ locals_of self.now func }
+    {
+        match self.funcs.get(func as usize) {
+            Some(func) => func.locals.as_slice(),
             None => &[],
         }
     }

@@ -20,6 +20,8 @@ pub enum Operand {
 pub enum Base {
     /// A variable, by its number.
     Variable(u32),
+    /// What the pointer in a temporary points to.
+    Deref(u32),
 }
 
 /// A piece of memory that a line loads from or stores to.
@@ -34,9 +36,24 @@ pub enum BinOp {
     Add,
 }
 
-/// A value that is computed from operands.
+/// A kind of pointer: a reference, or a raw pointer.
+#[derive(Clone, Copy, Debug, PartialEq, Eq)]
+pub enum RefKind {
+    /// `&`.
+    Shared,
+    /// `&mut`.
+    Mut,
+    /// `*const`, made by `&raw const`.
+    RawConst,
+    /// `*mut`, made by `&raw mut`.
+    RawMut,
+}
+
+/// A value that is computed from operands, or a pointer to a place.
 #[derive(Clone, Copy, Debug, PartialEq, Eq)]
 pub enum Rvalue {
+    /// A pointer of this kind to a place, which is not accessed.
+    Ref(RefKind, Place),
     Use(Operand),
     Binary(BinOp, Operand, Operand),
 }

@@ -1,2 +1,4 @@
 pub mod Along
+pub mod Brought
+pub mod Goes
 pub mod Ample

@@ -1,8 +1,8 @@
 -- What a machine holds.
 use Rattle.std.specs.Prelude.{ℕ}
-use Rattle.tb_eval.specs.declared.frame.Frame.{Frame}
+use Rattle.tb_eval.specs.Step.{State}
 
--- its frame, and how many steps it has taken
+-- its memory and its frame, and how many steps it has taken
 pub record Held : Type 0 where
-  pub frame : Frame
+  pub state : State
   pub steps : ℕ

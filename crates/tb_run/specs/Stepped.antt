@@ -31,7 +31,7 @@ pub record PutsNothing (before after : SeenOut) : Type 0 where
   pub told : Stays before.bytes after.bytes
   pub calm : after.faults ≡ before.faults
 
--- the machine has gone on to this frame, one step further
+-- the machine has gone on, one step further
 pub record GoesOn (old new : Held) (before after : SeenOut) (bytes : List ℕ) : Type 0 where
   pub steps : new.steps ≡ old.steps + 1
   pub put : PutsWhole before after bytes
@@ -39,13 +39,13 @@ pub record GoesOn (old new : Held) (before after : SeenOut) (bytes : List ℕ) :
 -- What a call answers for a step: the step's own turn, or a failed write after a prefix of its bytes, or want of
 -- memory.
 abbrev pub Answers : Step → Held → Held → SeenOut → SeenOut → Turn → Type 0
-Answers (Goes frame bytes) old new before after turn.Goes = (new.frame ≡ frame) × GoesOn old new before after bytes
-Answers (Goes frame bytes) old new before after (turn.Ended WriteFault) = PutsFront before after bytes
-Answers (Goes frame bytes) old new before after (turn.Ended Memory) = PutsNothing before after
-Answers (Goes frame bytes) old new before after (turn.Ended Finished) = ⊥
-Answers (Goes frame bytes) old new before after (turn.Ended (Undefined stop span)) = ⊥
-Answers (Goes frame bytes) old new before after (turn.Ended (Panic panic span)) = ⊥
-Answers (Goes frame bytes) old new before after (turn.Ended StepLimit) = ⊥
+Answers (Goes state bytes) old new before after turn.Goes = (new.state ≡ state) × GoesOn old new before after bytes
+Answers (Goes state bytes) old new before after (turn.Ended WriteFault) = PutsFront before after bytes
+Answers (Goes state bytes) old new before after (turn.Ended Memory) = PutsNothing before after
+Answers (Goes state bytes) old new before after (turn.Ended Finished) = ⊥
+Answers (Goes state bytes) old new before after (turn.Ended (Undefined stop span)) = ⊥
+Answers (Goes state bytes) old new before after (turn.Ended (Panic panic span)) = ⊥
+Answers (Goes state bytes) old new before after (turn.Ended StepLimit) = ⊥
 Answers (Over outcome) old new before after turn.Goes = ⊥
 Answers (Over outcome) old new before after (turn.Ended answered) = EndsAs outcome answered × PutsNothing before after
 

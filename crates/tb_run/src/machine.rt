@@ -6,9 +6,12 @@ use crate::carry::carry;
 use sqlite_items::Items;
 use std::alloc::{AllocError, Global};
 use std::marker::Model;
+use std::sync::ledger::Ledger;
 use tb_base::{Sink, put_all};
 use tb_eval::{Frame, Outcome, Slot};
+use tb_heap::Heap;
 use tb_mir::{Local, LocalKind, Mir};
+use tb_perm::{BorrowTree, Steps};
 
 /// Memory ran out.
 #[derive(Clone, Copy, Debug, PartialEq, Eq)]
@@ -23,20 +26,22 @@ pub enum Turn {
     Ended(Outcome),
 }
 
-/// A run of a program, between two steps.
-#[derive(Debug, Drop)]
-pub struct Machine {
+/// A run of a program, between two steps: its memory, with a tree of tags for each allocation, and
+/// its frame.
+#[derive(Drop)]
+pub struct Machine<T: BorrowTree> {
     alloc: Global,
+    heap: Heap<T>,
     frame: Frame,
     steps: u64,
 }
 
-impl Model for Machine {
+impl<T: BorrowTree> Model for Machine<T> {
     ghost use Rattle.tb_run.specs.Held.{Held};
 
     ghost Value = { Held };
 
-    ghost view = { λ m. record { frame = m.frame; steps = m.steps } };
+    ghost view = { λ m. record { state = record { memory = m.heap; frame = m.frame }; steps = m.steps } };
 }
 
 /// What a local has before the first step.
@@ -45,7 +50,7 @@ fn first(local: &Local) -> Slot
 {
     match local.kind {
         LocalKind::Variable => Slot::Dead,
-        LocalKind::Temp => Slot::Empty,
+        LocalKind::Temp | LocalKind::PlaceTemp => Slot::Empty,
     }
 }
 
@@ -60,23 +65,24 @@ fn first_of(alloc: Global, locals: &[Local]) -> Result<Items<Slot>, AllocError>
     Ok(Items::from_vec(slots))
 }
 
-impl Machine {
-    ghost use Rattle.tb_eval.specs.Step.{first_frame, step_of};
+impl<T: BorrowTree> Machine<T> {
+    ghost use Rattle.std.specs.Prelude.{◌≡◌};
+    ghost use Rattle.tb_eval.specs.Sound.{IsSoundState};
+    ghost use Rattle.tb_eval.specs.Step.{first_state, step_of};
     ghost use Rattle.tb_run.specs.Stepped.{Answers};
+    ghost use Rattle.tb_run.specs.declared.machine.Turn.TheVariants as turn;
 
     /// A machine before the first line of the first function, which is `main`.
-    pub fn start(alloc: Global, mir: &Mir) -> Result<Machine, Memory>
-        ensures { IfOk result (λ machine. machine ≡ record { frame = first_frame mir.now; steps = 0 }) }
+    pub fn start(alloc: Global, mir: &Mir) -> Result<Machine<T>, Memory>
+        ensures first { IfOk result (λ machine. machine ≡ record { state = first_state mir.now; steps = 0 }) }
+        ensures sound { IfOk result (λ machine. IsSoundState machine.state) }
     {
-        let slots = match mir.funcs.get(0) {
-            Some(main) => first_of(alloc, main.locals.as_slice()),
-            None => Ok(Items::new(alloc)),
-        };
-        let Ok(locals) = slots else {
+        let Ok(locals) = first_of(alloc, mir.locals(0)) else {
             return Err(Memory);
         };
         Ok(Machine {
             alloc,
+            heap: Heap::new(alloc),
             frame: Frame {
                 func: 0,
                 block: 0,
@@ -89,17 +95,21 @@ impl Machine {
 
     /// Carries out the next line. What a print puts goes out within its step. It is not called after
     /// the run has ended.
-    pub fn step<O: Sink>(&mut self, mir: &Mir, out: &mut O) -> Turn
+    pub fn step<O: Sink, L: Ledger>(&mut self, mir: &Mir, out: &mut O, steps: &mut Steps<L>) -> Turn
         requires out { O.faults out.old < 2 ^ 64 - 1 }
         requires steps { self.old.steps < 2 ^ 64 - 1 }
-        ensures { Answers (step_of mir.now self.old.frame) self.old self.new
+        requires sound { IsSoundState self.old.state }
+        ensures answers { Answers (step_of mir.now self.old.state) self.old self.new
             (record { bytes = O.bytes out.old; faults = O.faults out.old }) (record { bytes = O.bytes out.new; faults = O.faults out.new }) result }
+        ensures sound { result ≡ turn.Goes → IsSoundState self.new.state }
     {
         let frame = &mut self.frame;
         let Some(line) = mir.line(frame.func, frame.block, frame.at) else {
             return Turn::Ended(Outcome::Finished);
         };
-        let bytes = match carry(self.alloc, &mut frame.locals, &line.line, line.span) {
+        let types = mir.locals(frame.func);
+        let heap = &mut self.heap;
+        let bytes = match carry(self.alloc, heap, &mut frame.locals, types, line, steps) {
             Ok(bytes) => bytes,
             Err(outcome) => return Turn::Ended(outcome),
         };

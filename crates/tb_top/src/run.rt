@@ -9,12 +9,16 @@ use crate::read::read_file;
 use crate::words::file_word;
 use sqlite_items::Items;
 use std::alloc::Global;
+use std::marker::Brand;
+use std::sync::ledger::{Blank, Ledger};
 use tb_base::{Files, Sink};
 use tb_diag::report;
 use tb_eval::Outcome;
 use tb_lower::lower_source;
 use tb_mir::Mir;
 use tb_parse::small;
+use tb_perm::Steps;
+use tb_plain::PlainTree;
 use tb_run::Machine;
 
 /// Reports the end of a run that does not finish.
@@ -46,9 +50,29 @@ fn run_mir<O: Sink>(alloc: Global, source: &[u8], mir: &Mir, out: &mut O) -> Res
     ensures { RunEnds source.now (whole_run mir.now)
         (record { bytes = O.bytes out.old; faults = O.faults out.old }) (record { bytes = O.bytes out.new; faults = O.faults out.new }) result }
 {
-    let mut machine = Machine::start(alloc, mir)?;
+    run_from::<Brand, O>(Blank::new(1), alloc, source, mir, out)
+}
+
+/// The same, with a counter of the steps of its trees, which takes no bytes.
+fn run_from<L: Ledger, O: Sink>(
+    blank: Blank,
+    alloc: Global,
+    source: &[u8],
+    mir: &Mir,
+    out: &mut O,
+) -> Result<(), Halt>
+    requires name { blank.name ≡ L.name }
+    requires parts { blank.parts ≡ L.parts }
+    requires some { 0 < L.parts }
+    requires short { length source.now ≤ 1048576 }
+    requires out { O.faults out.old < 2 ^ 64 - 1 }
+    ensures { RunEnds source.now (whole_run mir.now)
+        (record { bytes = O.bytes out.old; faults = O.faults out.old }) (record { bytes = O.bytes out.new; faults = O.faults out.new }) result }
+{
+    let mut steps: Steps<L> = Steps::new(blank);
+    let mut machine: Machine<PlainTree> = Machine::start(alloc, mir)?;
     let bound = mir.lines(0, 0).len() as u64 + 1;
-    let end = tb_run::run(&mut machine, mir, bound, out);
+    let end = tb_run::run(&mut machine, mir, bound, out, &mut steps);
     conclude(alloc, source, end)
 }
 

@@ -1,10 +1,10 @@
 use Rattle.std.proofs.Common.{◌≡◌, ◌+◌, length, ap, ◌∙◌, subst, arith}
 use Rattle.tb_eval.specs.Run.{run_of, whole_run, ample}
-use Rattle.tb_eval.specs.Step.{first_frame}
+use Rattle.tb_eval.specs.Step.{first_state}
 use Rattle.tb_run.specs.Held.{Held}
 use Rattle.tb_run.specs.Stepped.{SeenOut, RunsAs}
 use Rattle.tb_top.proofs.StageLaws.{concluded}
-use Rattle.tb_top.proofs.run.run_mir.Goals as goal
+use Rattle.tb_top.proofs.run.run_from.Goals as goal
 
 pub returns : goal.returns
 returns g c =
@@ -13,7 +13,7 @@ returns g c =
     let after : SeenOut = record { bytes = g.O.Sink.bytes c.run-end.new.out; faults = g.O.Sink.faults c.run-end.new.out } in
     let bound = length c.lines.result.now + 1 in
     let enough : bound ≡ ample mir = omega (arith, ap length c.lines.ensures) in
-    let whole : run_of mir c.in_ok-machine.machine.frame bound ≡ whole_run mir =
-    ap (λ (held : Held). run_of mir held.frame bound) c.in_ok-machine.ensures ∙ ap (λ n. run_of mir (first_frame mir) n) enough in
+    let whole : run_of mir c.in_ok-machine.machine.state bound ≡ whole_run mir =
+    ap (λ (held : Held). run_of mir held.state bound) c.in_ok-machine.ensures.first ∙ ap (λ n. run_of mir (first_state mir) n) enough in
     concluded (Unit {0}) c.args.source.now (whole_run mir) before after c.run-end.result c.conclude.result
     (subst (λ run. RunsAs run before after c.run-end.result) whole c.run-end.ensures.run) c.conclude.ensures
