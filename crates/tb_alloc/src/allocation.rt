@@ -1,0 +1,63 @@
+ghost use Rattle.std.specs.Prelude.{◌≡◌};
+ghost use Rattle.tb_alloc.specs.Allocations.{is_live_heap, live_size};
+ghost use Rattle.tb_alloc.specs.Check.{offset_in};
+
+use tb_perm::Span;
+
+/// What an allocation is for.
+#[derive(Clone, Copy, Debug, PartialEq, Eq)]
+pub enum AllocKind {
+    /// A variable of a frame.
+    Stack,
+    /// A block that the program has to free.
+    Heap,
+}
+
+/// An allocation: `size` bytes from the address `base` on, which is a multiple of `align`. `made` is the
+/// place of the source that made it. Once it is dead it stays dead.
+#[derive(Clone, Copy, Debug, PartialEq, Eq)]
+pub struct Allocation {
+    pub base: u64,
+    pub size: u32,
+    pub align: u32,
+    pub kind: AllocKind,
+    pub made: Span,
+    pub live: bool,
+}
+
+impl Allocation {
+    /// Whether it is live and of the heap.
+    pub fn is_live_heap(&self) -> bool
+        ensures { result ≡ is_live_heap self.now }
+    {
+        match self.kind {
+            AllocKind::Heap => self.live,
+            AllocKind::Stack => false,
+        }
+    }
+
+    /// The bytes that it holds while it is live.
+    pub fn live_size(&self) -> u64
+        ensures { result ≡ live_size self.now }
+    {
+        if self.live { self.size as u64 } else { 0 }
+    }
+
+    /// The place of the first of `size` bytes at an address, counted from the base; none where a byte lies
+    /// outside.
+    pub fn offset(&self, addr: u64, size: u128) -> Option<u32>
+        ensures { result ≡ offset_in self.now addr size }
+    {
+        if addr < self.base {
+            return None;
+        }
+        let offset = addr - self.base;
+        if offset > self.size as u64 {
+            return None;
+        }
+        if size > (self.size as u64 - offset) as u128 {
+            return None;
+        }
+        Some(offset as u32)
+    }
+}

@@ -1,0 +1,4 @@
+pub mod Provs
+pub mod Cuts
+pub mod Stacks
+pub mod Calls

@@ -1,0 +1,13 @@
+//! A value for each place below a size, kept as runs of equal values. Contracts see it as the plain
+//! list of the values.
+#![tactic(auto)]
+
+mod patch;
+mod pieces;
+mod run;
+mod runs;
+#[cfg(test)]
+mod tests;
+
+pub use run::Run;
+pub use runs::{Memory, Runs};
