@@ -26,12 +26,21 @@ fn operand(alloc: Global, out: &mut Vec<u8>, operand: Operand) -> Result<(), All
 }
 
 fn place(alloc: Global, out: &mut Vec<u8>, place: Place) -> Result<(), AllocError> {
-    let Base::Variable(variable) = place.base;
-    local(alloc, out, variable)
+    match place.base {
+        Base::Variable(variable) => local(alloc, out, variable),
+        Base::Deref(temp) => {
+            out.extend_from_slice(b" *")?;
+            local(alloc, out, temp)
+        }
+    }
 }
 
 fn rvalue(alloc: Global, out: &mut Vec<u8>, rvalue: Rvalue) -> Result<(), AllocError> {
     match rvalue {
+        Rvalue::Ref(_, to) => {
+            out.extend_from_slice(b" ref")?;
+            place(alloc, out, to)
+        }
         Rvalue::Use(of) => operand(alloc, out, of),
         Rvalue::Binary(BinOp::Add, left, right) => {
             out.extend_from_slice(b" add")?;
@@ -86,6 +95,10 @@ fn show(alloc: Global, out: &mut Vec<u8>, line: &Line) -> Result<(), AllocError>
             }
             Ok(())
         }
+        Line::Retag(temp) => {
+            out.extend_from_slice(b"retag")?;
+            local(alloc, out, *temp)
+        }
         Line::Return => out.extend_from_slice(b"return"),
     }
 }
@@ -111,7 +124,7 @@ fn pieces(alloc: Global, source: &[u8], mir: &Mir) -> Result<Vec<u8>, AllocError
     Ok(out)
 }
 
-/// The locals of a program: `v` for a variable, and `t` for a temporary.
+/// The locals of a program: `v` for a variable, `t` for a temporary, and `p` for one of a place.
 fn kinds(alloc: Global, mir: &Mir) -> Result<Vec<u8>, AllocError> {
     let mut out = Vec::new(alloc);
     if let Some(main) = mir.funcs.get(0) {
@@ -119,6 +132,7 @@ fn kinds(alloc: Global, mir: &Mir) -> Result<Vec<u8>, AllocError> {
             out.push(match local.kind {
                 LocalKind::Variable => b'v',
                 LocalKind::Temp => b't',
+                LocalKind::PlaceTemp => b'p',
             })?;
         }
     }
