@@ -152,8 +152,8 @@ load_sound memory locals temp span (Err stop) sound knows known = tt
 load_sound memory locals temp span (Ok pointer) sound knows known =
     brought_sound span (λ value. slice_set locals temp (slot.Holds value)) (loaded memory pointer)
     (λ new value e.
-      let next = loaded_follows memory new pointer value sound (known pointer refl) e in
-      (next.0.sound, KnowsSlots-set new locals temp (slot.Holds value) (KnowsSlots-kept memory new locals next.0.keeps knows) next.1))
+    let next = loaded_follows memory new pointer value sound (known pointer refl) e in
+    (next.0.sound, KnowsSlots-set new locals temp (slot.Holds value) (KnowsSlots-kept memory new locals next.0.keeps knows) next.1))
 
 store_sound : (memory : RunMemory) (locals : List Slot) (span : Span) (v : Result Value Stop) (r : Result (Option Prov) Stop) → IsSound memory → KnowsSlots memory locals → ((value : Value) → v ≡ Ok value → Knows memory value) → ((pointer : Option Prov) → r ≡ Ok pointer → KnowsPointer memory pointer) → LeavesSound (store_at memory locals span v r)
 store_sound memory locals span (Err stop) r sound knows value known = tt
@@ -161,16 +161,16 @@ store_sound memory locals span (Ok v) (Err stop) sound knows value known = tt
 store_sound memory locals span (Ok v) (Ok pointer) sound knows value known =
     brought_sound span (λ done. locals) (stored memory pointer v)
     (λ new done e.
-      let next = stored_follows memory new pointer v done sound (known pointer refl) (value v refl) e in
-      (next.sound, KnowsSlots-kept memory new locals next.keeps knows))
+    let next = stored_follows memory new pointer v done sound (known pointer refl) (value v refl) e in
+    (next.sound, KnowsSlots-kept memory new locals next.keeps knows))
 
 retag_sound : (memory : RunMemory) (locals : List Slot) (temp : ℕ) (span : Span) (unique : Bool) (r : Result (Option Prov) Stop) → IsSound memory → KnowsSlots memory locals → ((pointer : Option Prov) → r ≡ Ok pointer → KnowsPointer memory pointer) → LeavesSound (retag_at memory locals temp span unique r)
 retag_sound memory locals temp span unique (Err stop) sound knows known = tt
 retag_sound memory locals temp span unique (Ok pointer) sound knows known =
     brought_sound span (λ prov. slice_set locals temp (slot.Holds (Pointer (Some prov)))) (retagged memory pointer unique span)
     (λ new prov e.
-      let next = retagged_follows memory new pointer unique span prov sound (known pointer refl) e in
-      (next.0.sound, KnowsSlots-set new locals temp (slot.Holds (Pointer (Some prov))) (KnowsSlots-kept memory new locals next.0.keeps knows) next.1))
+    let next = retagged_follows memory new pointer unique span prov sound (known pointer refl) e in
+    (next.0.sound, KnowsSlots-set new locals temp (slot.Holds (Pointer (Some prov))) (KnowsSlots-kept memory new locals next.0.keeps knows) next.1))
 
 retag_as_sound : (memory : RunMemory) (locals : List Slot) (temp : ℕ) (span : Span) (o : Option Bool) → IsSound memory → KnowsSlots memory locals → LeavesSound (retag_as memory locals temp span o)
 retag_as_sound memory locals temp span None sound knows = (sound, knows)
@@ -194,8 +194,8 @@ effect_sound types (Dead variable) span memory locals sound knows =
     let pointer = variable_pointer (slice_get locals variable) in
     brought_sound span (λ done. slice_set locals variable slot.Dead) (freed memory pointer)
     (λ new done e.
-      let next = freed_follows memory new pointer done sound (variable_known memory locals variable knows) e in
-      (next.sound, KnowsSlots-set new locals variable slot.Dead (KnowsSlots-kept memory new locals next.keeps knows) tt))
+    let next = freed_follows memory new pointer done sound (variable_known memory locals variable knows) e in
+    (next.sound, KnowsSlots-set new locals variable slot.Dead (KnowsSlots-kept memory new locals next.keeps knows) tt))
 effect_sound types (Load temp place) span memory locals sound knows = load_sound memory locals temp span (place_pointer locals place) sound knows (λ pointer e. place_known memory locals place pointer knows e)
 effect_sound types (Store place o) span memory locals sound knows =
     store_sound memory locals span (operand_value locals o) (place_pointer locals place) sound knows (λ value e. operand_known memory locals o value knows e) (λ pointer e. place_known memory locals place pointer knows e)

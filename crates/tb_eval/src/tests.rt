@@ -61,7 +61,10 @@ fn borrows(rt: HostRuntime) {
         (Base::Deref(1), Err(EvalError::Stop(Stop::Uninit))),
     ];
     for (base, wanted) in rows {
-        assert_eq!(rt; rvalue(&LOCALS, Rvalue::Ref(RefKind::Mut, Place { base })), wanted);
+        assert_eq!(rt;
+            rvalue(&LOCALS, Rvalue::Ref(RefKind::Mut, Place { base })),
+            wanted
+        );
     }
 }
 

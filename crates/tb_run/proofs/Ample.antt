@@ -1,5 +1,5 @@
 -- A bound above the number of lines is met by no run, since each step goes on to the next line.
-use Rattle.std.proofs.Common.{◌≡◌, ◌≢◌, ◌≤◌, ◌<◌, ◌+◌, zero, suc, ℕ, ℤ, Bool, true, false, Option, Some, None, Result, Ok, Err, List, [], ◌++◌, length, slice_get, slice_set, refl, sym, ap, ◌∙◌, subst, arith}
+use Rattle.std.proofs.Common.{◌≡◌, ◌≢◌, ◌≤◌, ◌<◌, ◌+◌, zero, suc, ℕ, Bool, Option, Some, None, Result, Ok, Err, List, length, slice_get, slice_set, refl, sym, subst, arith}
 use Rattle.tb_perm.specs.declared.span.Span.{Span}
 use Rattle.tb_mir.specs.Mir.{line_at, lines_of, locals_of}
 use Rattle.tb_mir.specs.declared.line.Line.{Line}
@@ -12,7 +12,7 @@ use Rattle.tb_heap.specs.Access.{Came, Done, Stopped, loaded, stored, freed, ret
 use Rattle.tb_heap.specs.Memory.{RunMemory}
 use Rattle.tb_heap.specs.declared.value.Value.TheVariants.{Pointer}
 use Rattle.tb_eval.specs.Print.{printed}
-use Rattle.tb_eval.specs.Run.{Run, run_of, continued, preceded, ample}
+use Rattle.tb_eval.specs.Run.{Run, run_of, continued, ample}
 use Rattle.tb_eval.specs.Step.{Effect, Next, Ends, Turn, Goes, Over, State, turned, effect_at, effect_of, given, brought, load_at, store_at, retag_at, retag_as, told, is_unique_local, first_state}
 use Rattle.tb_eval.specs.Value.{operand_value, temp_value, pointer_of, variable_pointer, place_pointer, rvalue_value}
 use Rattle.tb_eval.specs.declared.frame.Frame.{Frame}

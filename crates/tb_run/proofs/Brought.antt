@@ -1,5 +1,5 @@
 -- What came of an event on memory, as what a line does.
-use Rattle.std.proofs.Common.{◌≡◌, ℕ, List, [], Result, Ok, Err, refl, sym, ap, ◌∙◌}
+use Rattle.std.proofs.Common.{◌≡◌, ℕ, List, Result, Ok, Err, refl, ap, ◌∙◌}
 use Rattle.tb_perm.specs.declared.span.Span.{Span}
 use Rattle.tb_heap.specs.Access.{Came, Done, Stopped, Answers}
 use Rattle.tb_heap.specs.Memory.{RunMemory}

@@ -1,4 +1,3 @@
-use Rattle.std.proofs.Common.{ap, ◌∙◌}
 use Rattle.tb_eval.proofs.Soundness.{first_sound}
 use Rattle.tb_run.proofs.machine.Machine.start.Goals as goal
 

@@ -1,0 +1,11 @@
+pub mod Characters
+pub mod Tables
+pub mod Numbers
+pub mod Stages
+pub mod Comments
+pub mod Scan
+pub mod Literals
+pub mod Tokens
+pub mod Faults
+pub mod Texts
+pub mod Growth
