@@ -74,8 +74,9 @@ fn refused(alloc: Global, id: AllocId, report: &Report) -> Result<String, AllocE
     let refusal = refusal_words(report.refusal);
     let access = access_words(report.access);
     let (through, byte, id) = (report.through.0, report.byte, id.0);
-    let text =
-        format!(in alloc; "  {refusal}: {access} through tag {through} at byte {byte} of allocation {id}")?;
+    let text = format!(in alloc;
+        "  {refusal}: {access} through tag {through} at byte {byte} of allocation {id}"
+    )?;
     Ok(text)
 }
 

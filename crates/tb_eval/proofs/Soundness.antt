@@ -1,5 +1,5 @@
 -- Each step from a sound state goes on to a sound one.
-use Rattle.std.proofs.Common.{◌≡◌, ◌+◌, zero, suc, ℕ, ℤ, Bool, true, false, List, [], ◌∷◌, map, Option, Some, None, Result, Ok, Err, refl, sym, ap, ◌∙◌, subst, slice_get, slice_set}
+use Rattle.std.proofs.Common.{◌≡◌, ◌+◌, zero, suc, ℕ, ℤ, Bool, true, false, List, [], ◌∷◌, map, Option, Some, None, Result, Ok, Err, refl, subst, slice_get, slice_set}
 use Rattle.std.specs.Prelude.{◌+ℤ◌, if◌then◌else◌}
 use Rattle.tb_perm.specs.declared.span.Span.{Span}
 use Rattle.tb_perm.specs.declared.tag.Prov.{Prov}
@@ -22,19 +22,18 @@ use Rattle.tb_mir.specs.declared.operand.Rvalue.{Rvalue}
 use Rattle.tb_mir.specs.declared.operand.Rvalue.TheVariants.{Ref, Use, Binary}
 use Rattle.tb_heap.specs.Access.{Came, Done, Stopped, loaded, stored, freed, retagged}
 use Rattle.tb_heap.specs.Memory.{RunMemory, no_memory, born, birth}
-use Rattle.tb_heap.specs.Sound.{HasProv, KnowsPointer, Knows, IsSound, Keeps}
+use Rattle.tb_heap.specs.Sound.{KnowsPointer, Knows, IsSound, Keeps}
 use Rattle.tb_heap.specs.declared.stop.Stop.{Stop}
 use Rattle.tb_heap.specs.declared.value.Value.{Value}
 use Rattle.tb_heap.specs.declared.value.Value.TheVariants.{Unit as TheUnit, Int, Pointer}
-use Rattle.tb_heap.proofs.Soundness.{Follows, Knows-kept, loaded_follows, stored_follows, freed_follows, retagged_follows, born_follows}
+use Rattle.tb_heap.proofs.Soundness.{Knows-kept, loaded_follows, stored_follows, freed_follows, retagged_follows, born_follows}
 use Rattle.tb_eval.specs.Print.{printed}
 use Rattle.tb_eval.specs.Sound.{KnowsSlot, KnowsSlots, IsSoundState}
-use Rattle.tb_eval.specs.Step.{Effect, Next, Ends, Turn, Goes, Over, State, step_of, turned, effect_at, effect_of, given, brought, load_at, store_at, retag_at, retag_as, told, cleared, size_in, is_unique_local, first_slot, first_state}
-use Rattle.tb_eval.specs.Value.{operand_value, temp_value, pointer_in, pointer_of, variable_pointer, base_pointer, place_pointer, rvalue_value, used, pointed, sum_of, fitting, fits_i32, int_operand}
+use Rattle.tb_eval.specs.Step.{Effect, Next, Ends, Goes, State, step_of, turned, effect_at, effect_of, given, brought, load_at, store_at, retag_at, retag_as, told, cleared, size_in, is_unique_local, first_slot, first_state}
+use Rattle.tb_eval.specs.Value.{operand_value, temp_value, pointer_in, pointer_of, variable_pointer, base_pointer, place_pointer, rvalue_value, used, pointed, sum_of, fits_i32, int_operand}
 use Rattle.tb_eval.specs.declared.frame.Frame.{Frame}
 use Rattle.tb_eval.specs.declared.outcome.EvalError.{EvalError}
 use Rattle.tb_eval.specs.declared.outcome.EvalError.TheVariants as error
-use Rattle.tb_eval.specs.declared.outcome.Outcome.{Outcome}
 use Rattle.tb_eval.specs.declared.outcome.Panic.TheVariants.{Overflow}
 use Rattle.tb_eval.specs.declared.value.Slot.{Slot}
 use Rattle.tb_eval.specs.declared.value.Slot.TheVariants as slot

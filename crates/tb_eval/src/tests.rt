@@ -30,15 +30,16 @@ const UNIT: Operand = Operand::Const(Constant::Unit);
 #[test]
 fn operands_and_places(rt: HostRuntime) {
     let none = Err(Stop::Uninit);
+    let nowhere = Err(Stop::Uninit);
     let rows = [
-        (0, none, None, none),
-        (1, none, None, none),
-        (3, Ok(Value::Int(-7)), None, none),
-        (4, Ok(Value::Unit), None, none),
-        (6, none, Some(AT), none),
+        (0, none, None, nowhere),
+        (1, none, None, nowhere),
+        (3, Ok(Value::Int(-7)), None, nowhere),
+        (4, Ok(Value::Unit), None, nowhere),
+        (6, none, Some(AT), nowhere),
         (7, Ok(Value::Pointer(Some(AT))), None, Ok(Some(AT))),
         (8, Ok(Value::Pointer(None)), None, Ok(None)),
-        (9, none, None, none),
+        (9, none, None, nowhere),
     ];
     for (local, temp, variable, pointee) in rows {
         let base = Base::Variable(local);

@@ -1,4 +1,4 @@
-use Rattle.std.proofs.Common.{◌≡◌, sym}
+use Rattle.std.proofs.Common.{sym}
 use Rattle.tb_diag.specs.Report.{refusing_text}
 use Rattle.tb_diag.proofs.reports.refusing.Goals as goal
 

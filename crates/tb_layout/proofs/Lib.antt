@@ -1,0 +1,5 @@
+pub mod Capping
+pub mod Extents
+pub mod Placing
+pub mod Marking
+pub mod Ranges

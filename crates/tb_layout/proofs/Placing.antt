@@ -1,0 +1,133 @@
+-- Parts within the limits, placed one after another.
+use Rattle.std.proofs.Common.{◌≡◌, refl, sym, ◌∙◌, ap, subst, ℕ, ◌+◌, ◌≤◌, ◌<◌, Bool, true, ◌&&◌, List, [], ◌∷◌, ◌++◌, length, map, drop, get_or, Some, arith, add-one}
+use Rattle.std.specs.Prelude.{nat_le}
+use Rattle.std.specs.List.{AllByRecursion}
+use Rattle.std.specs.Cmp.{first_so, second_so}
+use Rattle.std.proofs.lemmas.Bool.{leb-true, le-leb}
+use Rattle.std.proofs.lemmas.List.{append_assoc}
+use Rattle.std.proofs.Math.Seq.{drop-cons}
+use Rattle.tb_types.specs.declared.shape.Ty.{Ty}
+use Rattle.tb_types.specs.declared.shape.TyShape.{TyShape}
+use Rattle.tb_types.specs.declared.shape.TyShape.TheVariants.{Tuple, Struct}
+use Rattle.tb_types.specs.declared.item.Field.{Field}
+use Rattle.tb_types.specs.Table.{TypeTable, IsType, shape_at}
+use Rattle.tb_types.specs.Folded.{node_in, types_in}
+use Rattle.tb_types.specs.Sound.{AreTypes}
+use Rattle.tb_layout.specs.declared.extent.Extent.{Extent}
+use Rattle.tb_layout.specs.declared.extent.Row.{Row}
+use Rattle.tb_layout.specs.Extent.{rounded, nothing, with_part, laid, together, extent_in, extent_of}
+use Rattle.tb_layout.specs.Layout.{is_within, has_layout, places}
+use Rattle.tb_layout.specs.LaysOut.{AreLaidOut, LaysOut}
+use Rattle.tb_layout.proofs.Capping.{rounded_above, laid_align, laid_levels}
+use Rattle.tb_layout.proofs.Extents.{aligned, extent_is}
+
+abbrev pub row_at : ℕ → Row
+row_at end = record nothing { end = end }
+
+abbrev pub AreAligned : List Extent → Type 0
+AreAligned = AllByRecursion (λ (part : Extent). 1 ≤ part.align)
+
+pub end_grows : (row : Row) (parts : List Extent) → AreAligned parts → row.end ≤ (laid row parts).end
+end_grows row [] h = omega arith
+end_grows row (part ∷ parts) h =
+    let a : row.end ≤ rounded row.end part.align = rounded_above row.end part.align h.0 in
+    let b : (with_part row part).end ≤ (laid (with_part row part) parts).end = end_grows (with_part row part) parts h.1 in
+    omega arith
+
+parts_grow : (row : Row) (parts : List Extent) → row.parts ≤ (laid row parts).parts
+parts_grow row [] = omega arith
+parts_grow row (part ∷ parts) = let h : (with_part row part).parts ≤ (laid (with_part row part) parts).parts = parts_grow (with_part row part) parts in omega arith
+
+-- where parts end depends on where they begin alone
+pub same_end : (a b : Row) (parts : List Extent) → a.end ≡ b.end → (laid a parts).end ≡ (laid b parts).end
+same_end a b [] e = e
+same_end a b (part ∷ parts) e = same_end (with_part a part) (with_part b part) parts (ap (λ n. rounded n part.align + part.size) e)
+
+pub record HasRoom (end : ℕ) (part : Extent) (parts : List Extent) : Type 0 where
+  pub end_fits : end ≤ 1048576
+  pub part_fits : rounded end part.align + part.size ≤ 1048576
+  pub rest_fits : (laid (row_at (rounded end part.align + part.size)) parts).end ≤ 1048576
+
+pub has_room : (end : ℕ) (part : Extent) (parts : List Extent) → AreAligned (part ∷ parts) → (laid (row_at end) (part ∷ parts)).end ≤ 1048576 → HasRoom end part parts
+has_room end part parts h room =
+    let a : end ≤ rounded end part.align = rounded_above end part.align h.0 in
+    let b : rounded end part.align + part.size ≤ (laid (with_part (row_at end) part) parts).end = end_grows (with_part (row_at end) part) parts h.1 in
+    let e : (laid (row_at (rounded end part.align + part.size)) parts).end ≡ (laid (with_part (row_at end) part) parts).end = same_end (row_at (rounded end part.align + part.size)) (with_part (row_at end) part) parts refl in
+    record { end_fits = omega arith; part_fits = omega arith; rest_fits = omega arith }
+
+-- one step over parts that are left
+module _ (types : TypeTable) (rest : List Ty) (part : Ty) (more : List Ty) (is : rest ≡ part ∷ more) where
+  pub types_step : (P : Ty → Type 0) → AllByRecursion P rest → P part × AllByRecursion P more
+  types_step P h = subst (AllByRecursion P) is h
+
+  pub room_step : (end : ℕ) → (laid (row_at end) (map (extent_of types) rest)).end ≤ 1048576 → HasRoom end (extent_of types part) (map (extent_of types) more)
+  room_step end room = has_room end (extent_of types part) (map (extent_of types) more) (aligned types (part ∷ more)) (subst (λ (list : List Ty). (laid (row_at end) (map (extent_of types) list)).end ≤ 1048576) is room)
+
+  pub places_step : (end next : ℕ) (old new total : List ℕ) → next ≡ rounded end (extent_of types part).align + (extent_of types part).size → new ≡ old ++ rounded end (extent_of types part).align ∷ []
+      → old ++ places end (map (extent_of types) rest) ≡ total → new ++ places next (map (extent_of types) more) ≡ total
+  places_step end next old new total e f told =
+      ap (λ (list : List ℕ). list ++ places next (map (extent_of types) more)) f
+      ∙ ap (λ n. (old ++ rounded end (extent_of types part).align ∷ []) ++ places n (map (extent_of types) more)) e
+      ∙ append_assoc old (rounded end (extent_of types part).align ∷ []) (places (rounded end (extent_of types part).align + (extent_of types part).size) (map (extent_of types) more))
+      ∙ ap (λ (list : List Ty). old ++ places end (map (extent_of types) list)) (sym is) ∙ told
+
+pub drop_is : {X : Type 0} (xs : List X) (i : ℕ) (d : X) → i < length xs → drop i xs ≡ get_or xs i d ∷ drop (i + 1) xs
+drop_is xs i d h = drop-cons xs i d h ∙ ap (λ n. get_or xs i d ∷ drop n xs) (sym (add-one i))
+
+pub fields_is : (fields : List Field) (i : ℕ) (field : Field) → i < length fields → field ≡ get_or fields i field → types_in (drop i fields) ≡ field.ty ∷ types_in (drop (i + 1) fields)
+fields_is fields i field h e = ap types_in (drop_is fields i field h) ∙ ap (λ (f : Field). f.ty ∷ types_in (drop (i + 1) fields)) (sym e)
+
+-- each part is no larger than all of them
+pub record IsNoLarger (row : Row) (part : Extent) : Type 0 where
+  pub size : part.size ≤ row.end
+  pub parts : part.parts ≤ row.parts
+  pub levels : part.levels ≤ row.levels
+
+pub no_larger : (row : Row) (parts : List Extent) → AreAligned parts → AllByRecursion (IsNoLarger (laid row parts)) parts
+no_larger row [] h = tt
+no_larger row (part ∷ parts) h =
+    let a : row.end ≤ rounded row.end part.align = rounded_above row.end part.align h.0 in
+    let b : (with_part row part).end ≤ (laid (with_part row part) parts).end = end_grows (with_part row part) parts h.1 in
+    let c : (with_part row part).parts ≤ (laid (with_part row part) parts).parts = parts_grow (with_part row part) parts in
+    let d : (with_part row part).levels ≤ (laid (with_part row part) parts).levels = laid_levels (with_part row part) parts in
+    (record { size = omega arith; parts = omega arith; levels = omega arith }, no_larger (with_part row part) parts h.1)
+
+pub both_true : (a b : Bool) → a ≡ true → b ≡ true → (a && b) ≡ true
+both_true a b e f = ap (λ x. x && b) e ∙ f
+
+within_is : (extent : Extent) → extent.size ≤ 1048576 → extent.parts ≤ 4194304 → extent.levels ≤ 1024 → is_within extent ≡ true
+within_is extent a b c = both_true (nat_le extent.size 1048576) (nat_le extent.parts 4194304 && nat_le extent.levels 1024) (le-leb extent.size 1048576 a) (both_true (nat_le extent.parts 4194304) (nat_le extent.levels 1024) (le-leb extent.parts 4194304 b) (le-leb extent.levels 1024 c))
+
+each_within : (types : TypeTable) (row : Row) (parts : List Ty) → row.end ≤ 1048576 → row.parts ≤ 4194304 → row.levels ≤ 1024 → AllByRecursion (IsNoLarger row) (map (extent_of types) parts) → AllByRecursion (λ part. has_layout types part ≡ true) parts
+each_within types row [] a b c h = tt
+each_within types row (part ∷ parts) a b c h =
+    let s : (extent_of types part).size ≤ row.end = h.0.size in
+    let p : (extent_of types part).parts ≤ row.parts = h.0.parts in
+    let l : (extent_of types part).levels ≤ row.levels = h.0.levels in
+    (within_is (extent_of types part) (omega arith) (omega arith) (omega arith), each_within types row parts a b c h.1)
+
+pub laid_out : (types : TypeTable) (parts : List Ty) → is_within (together (map (extent_of types) parts)) ≡ true → AreLaidOut types parts
+laid_out types parts h =
+    let row : Row = laid nothing (map (extent_of types) parts) in
+    let align : 1 ≤ row.align = laid_align nothing (map (extent_of types) parts) in
+    let up : row.end ≤ rounded row.end row.align = rounded_above row.end row.align align in
+    let size : rounded row.end row.align ≤ 1048576 = leb-true (rounded row.end row.align) 1048576 (first_so (nat_le (rounded row.end row.align) 1048576) (nat_le (row.parts + 1) 4194304 && nat_le (row.levels + 1) 1024) h) in
+    let rest : (nat_le (row.parts + 1) 4194304 && nat_le (row.levels + 1) 1024) ≡ true = second_so (nat_le (rounded row.end row.align) 1048576) (nat_le (row.parts + 1) 4194304 && nat_le (row.levels + 1) 1024) h in
+    let count : row.parts + 1 ≤ 4194304 = leb-true (row.parts + 1) 4194304 (first_so (nat_le (row.parts + 1) 4194304) (nat_le (row.levels + 1) 1024) rest) in
+    let levels : row.levels + 1 ≤ 1024 = leb-true (row.levels + 1) 1024 (second_so (nat_le (row.parts + 1) 4194304) (nat_le (row.levels + 1) 1024) rest) in
+    record {
+      each = each_within types row parts (omega arith) (omega arith) (omega arith) (no_larger nothing (map (extent_of types) parts) (aligned types parts));
+      room = omega arith;
+    }
+
+by_shape : (types : TypeTable) (shape : TyShape) → is_within (extent_in types shape (map (extent_of types) (node_in types.items shape).parts)) ≡ true → LaysOut types shape
+by_shape types (Tuple parts) h = laid_out types parts h
+by_shape types (Struct item) h = laid_out types (node_in types.items (Struct item)).parts h
+by_shape types shape h = tt
+
+-- the parts of a type that has a layout have one
+pub lays_out : (types : TypeTable) → AreTypes types → (ty : Ty) (shape : TyShape) → IsType types ty → shape_at types ty ≡ Some shape → has_layout types ty ≡ true → LaysOut types shape
+lays_out types sound ty shape h e layout = by_shape types shape (subst (λ (extent : Extent). is_within extent ≡ true) (extent_is types sound ty shape h e) layout)
+
+pub room_next : (end next : ℕ) (part : Extent) (parts : List Extent) → HasRoom end part parts → next ≡ rounded end part.align + part.size → (laid (row_at next) parts).end ≤ 1048576
+room_next end next part parts room e = subst (λ n. (laid (row_at n) parts).end ≤ 1048576) (sym e) room.rest_fits

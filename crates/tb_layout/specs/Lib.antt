@@ -1,0 +1,5 @@
+pub mod Extent
+pub mod Capped
+pub mod Layout
+pub mod LaysOut
+pub mod Cells

@@ -1,0 +1,225 @@
+ghost use Rattle.std.specs.Prelude.{◌≡◌, ◌<◌, None, IsTrue};
+ghost use Rattle.std.specs.List.{AllByRecursion};
+ghost use Rattle.tb_types.specs.declared.shape.Ty.{Ty};
+ghost use Rattle.tb_types.specs.Table.{named_in, item_named};
+
+use crate::{cells, layout};
+use std::alloc::Global;
+use tb_perm::CellRange;
+use tb_types::{IntKind, Parts, Ty, TyShape, Types};
+
+/// Whether the types are below a number.
+fn are_below(parts: &[Ty], count: u32) -> bool
+    ensures { IsTrue result → AllByRecursion (λ (ty : Ty). ty.0 < count) parts.now }
+{
+    let Some((first, rest)) = parts.split_first() else {
+        return true;
+    };
+    first.0 < count && are_below(rest, count)
+}
+
+/// Whether a shape names types below a number alone, and no struct.
+fn is_known(shape: &TyShape, count: u32) -> bool
+    ensures named { IsTrue result → AllByRecursion (λ (ty : Ty). ty.0 < count) (named_in shape.now) }
+    ensures item { IsTrue result → item_named shape.now ≡ None }
+{
+    match shape {
+        TyShape::Tuple(parts) => are_below(parts.as_slice(), count),
+        TyShape::Array(part, _)
+        | TyShape::Ref(_, part)
+        | TyShape::Raw(_, part)
+        | TyShape::Boxed(part)
+        | TyShape::Cell(part)
+        | TyShape::UnsafeCell(part)
+        | TyShape::Slice(part) => part.0 < count,
+        TyShape::Struct(_) => false,
+        _ => true,
+    }
+}
+
+/// The type of a shape, where it names types that are there and no struct.
+fn add(types: &mut Types, shape: TyShape) -> Option<Ty> {
+    if types.count() > 9999 || !is_known(&shape, types.count()) {
+        return None;
+    }
+    match types.intern(shape) {
+        Ok(ty) => Some(ty),
+        Err(_) => None,
+    }
+}
+
+/// The type of a tuple of types that are there.
+fn add_tuple(alloc: Global, types: &mut Types, parts: &[Ty]) -> Option<Ty> {
+    match Vec::from_slice(alloc, parts) {
+        Ok(parts) => add(types, TyShape::Tuple(Parts::from_vec(parts))),
+        Err(_) => None,
+    }
+}
+
+/// The size and alignment of a type that is there and is not too large.
+fn measured(alloc: Global, types: &Types, ty: Ty) -> Option<(u32, u32)> {
+    if ty.0 >= types.count() {
+        return None;
+    }
+    match layout(alloc, types, ty) {
+        Ok(layout) => Some((layout.size, layout.align)),
+        Err(_) => None,
+    }
+}
+
+/// Whether the offsets in a type are these.
+fn has_offsets(alloc: Global, types: &Types, ty: Ty, wanted: &[u32]) -> bool {
+    if ty.0 >= types.count() {
+        return false;
+    }
+    match layout(alloc, types, ty) {
+        Ok(layout) => layout.fields.as_slice() == wanted,
+        Err(_) => false,
+    }
+}
+
+#[test]
+fn types_have_layouts(rt: HostRuntime) {
+    let mut types = Types::new(rt.alloc());
+    let rows = [
+        (TyShape::Int(IntKind::U8), Some((1, 1))),
+        (TyShape::Int(IntKind::U16), Some((2, 2))),
+        (TyShape::Int(IntKind::I32), Some((4, 4))),
+        (TyShape::Int(IntKind::U64), Some((8, 8))),
+        (TyShape::Int(IntKind::Isize), Some((8, 8))),
+        (TyShape::Bool, Some((1, 1))),
+        (TyShape::Char, Some((4, 4))),
+        (TyShape::Unit, Some((0, 1))),
+        (TyShape::Ref(false, Ty(0)), Some((8, 8))),
+        (TyShape::Slice(Ty(0)), Some((0, 1))),
+        (TyShape::Ref(true, Ty(9)), Some((16, 8))),
+        (TyShape::Raw(true, Ty(9)), Some((16, 8))),
+        (TyShape::Boxed(Ty(0)), Some((8, 8))),
+        (TyShape::Cell(Ty(1)), Some((2, 2))),
+        (TyShape::UnsafeCell(Ty(0)), Some((1, 1))),
+        (TyShape::Array(Ty(1), 3), Some((6, 2))),
+        (TyShape::Array(Ty(3), 0), Some((0, 8))),
+        // The limits at their edge and one over: bytes, then parts.
+        (TyShape::Array(Ty(0), 1_048_576), Some((1_048_576, 1))),
+        (TyShape::Array(Ty(0), 1_048_577), None),
+        (TyShape::Array(Ty(7), 4_194_303), Some((0, 1))),
+        (TyShape::Array(Ty(7), 4_194_304), None),
+        (TyShape::Array(Ty(18), 0), Some((0, 1))),
+        (TyShape::Array(Ty(3), 2_305_843_009_213_693_952), None),
+        (TyShape::Array(Ty(7), 18_446_744_073_709_551_615), None),
+    ];
+    let mut next = 0;
+    for (shape, wanted) in rows {
+        assert_eq!(rt; add(&mut types, shape), Some(Ty(next)));
+        assert_eq!(rt; measured(rt.alloc(), &types, Ty(next)), wanted);
+        next = next.wrapping_add(1);
+    }
+}
+
+#[test]
+fn tuples_have_layouts(rt: HostRuntime) {
+    let mut types = Types::new(rt.alloc());
+    let shapes = [
+        TyShape::Int(IntKind::U8),
+        TyShape::Int(IntKind::U16),
+        TyShape::Int(IntKind::I32),
+        TyShape::Unit,
+        TyShape::Int(IntKind::U64),
+        TyShape::Array(Ty(4), 0),
+    ];
+    for shape in shapes {
+        let _ = add(&mut types, shape);
+    }
+    // Padding between parts and at the end, parts of no bytes, an alignment from no bytes.
+    let rows: [(&[Ty], (u32, u32), &[u32]); 6] = [
+        (&[Ty(0), Ty(2)], (8, 4), &[0, 4]),
+        (&[Ty(2), Ty(0)], (8, 4), &[0, 4]),
+        (&[Ty(0), Ty(1), Ty(0)], (6, 2), &[0, 2, 4]),
+        (&[Ty(3), Ty(0)], (1, 1), &[0, 0]),
+        (&[Ty(0), Ty(5)], (8, 8), &[0, 8]),
+        (&[Ty(6), Ty(0)], (12, 4), &[0, 8]),
+    ];
+    let mut next = 6;
+    for (parts, wanted, offsets) in rows {
+        assert_eq!(rt; add_tuple(rt.alloc(), &mut types, parts), Some(Ty(next)));
+        assert_eq!(rt; measured(rt.alloc(), &types, Ty(next)), Some(wanted));
+        assert!(rt; has_offsets(rt.alloc(), &types, Ty(next), offsets));
+        next = next.wrapping_add(1);
+    }
+}
+
+#[test]
+fn deep_types_end(rt: HostRuntime) {
+    // 1,023 cells around a byte have 1,024 levels.
+    let mut types = Types::new(rt.alloc());
+    let _ = add(&mut types, TyShape::Int(IntKind::U8));
+    for at in 0..1024 {
+        let _ = add(&mut types, TyShape::Cell(Ty(at)));
+    }
+    assert_eq!(rt; measured(rt.alloc(), &types, Ty(1023)), Some((1, 1)));
+    assert_eq!(rt; measured(rt.alloc(), &types, Ty(1024)), None);
+    // Twenty pairs of pairs have 1,048,576 bytes, and their parts are below the limit; forty end at once.
+    for at in 0..40 {
+        let last = if at == 0 { 0 } else { 1024 + at };
+        let _ = add_tuple(rt.alloc(), &mut types, &[Ty(last), Ty(last)]);
+    }
+    assert_eq!(rt;
+        measured(rt.alloc(), &types, Ty(1044)),
+        Some((1_048_576, 1))
+    );
+    assert_eq!(rt; measured(rt.alloc(), &types, Ty(1045)), None);
+    assert_eq!(rt; measured(rt.alloc(), &types, Ty(1064)), None);
+}
+
+/// Whether the cell bytes of a type are these, from one byte up to before another.
+fn has_cells(alloc: Global, types: &Types, ty: Ty, wanted: &[CellRange]) -> bool {
+    if ty.0 >= types.count() || layout(alloc, types, ty).is_err() {
+        return false;
+    }
+    match cells(alloc, types, ty) {
+        Ok(cells) => cells.as_slice() == wanted,
+        Err(_) => false,
+    }
+}
+
+fn range(lo: u32, hi: u32) -> CellRange {
+    CellRange { lo, hi }
+}
+
+#[test]
+fn cells_have_bytes(rt: HostRuntime) {
+    let mut types = Types::new(rt.alloc());
+    let shapes = [
+        TyShape::Int(IntKind::U8),
+        TyShape::Int(IntKind::I32),
+        TyShape::Cell(Ty(0)),
+        TyShape::Ref(false, Ty(2)),
+        TyShape::Boxed(Ty(2)),
+        TyShape::Array(Ty(2), 3),
+    ];
+    for shape in shapes {
+        let _ = add(&mut types, shape);
+    }
+    // A cell around padding, an array of pairs, and then a tuple of cells with others.
+    let _ = add_tuple(rt.alloc(), &mut types, &[Ty(0), Ty(1)]);
+    let _ = add_tuple(rt.alloc(), &mut types, &[Ty(2), Ty(0)]);
+    let _ = add_tuple(rt.alloc(), &mut types, &[Ty(2), Ty(2), Ty(3)]);
+    let _ = add(&mut types, TyShape::UnsafeCell(Ty(6)));
+    let _ = add(&mut types, TyShape::Array(Ty(7), 2));
+    let _ = add_tuple(rt.alloc(), &mut types, &[Ty(0), Ty(9), Ty(2)]);
+    let rows: [(u32, &[CellRange]); 10] = [
+        (1, &[]),
+        (2, &[range(0, 1)]),
+        (3, &[]),
+        (4, &[]),
+        (5, &[range(0, 3)]),
+        (7, &[range(0, 1)]),
+        (8, &[range(0, 2)]),
+        (9, &[range(0, 8)]),
+        (10, &[range(0, 1), range(2, 3)]),
+        (11, &[range(4, 13)]),
+    ];
+    for (ty, wanted) in rows {
+        assert!(rt; has_cells(rt.alloc(), &types, Ty(ty), wanted), "{ty}");
+    }
+}

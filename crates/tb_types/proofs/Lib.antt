@@ -1,0 +1,12 @@
+pub mod Exact
+pub mod Folding
+pub mod FactsLemmas
+pub mod Within
+pub mod Interned
+pub mod Places
+pub mod Declared
+pub mod Defined
+pub mod Keeping
+pub mod Refreshed
+pub mod Complete
+pub mod CallerLemmas

@@ -1,0 +1,9 @@
+pub mod Same
+pub mod Shapes
+pub mod Table
+pub mod Folded
+pub mod Facts
+pub mod Sound
+pub mod Kept
+pub mod Forms
+pub mod Heads

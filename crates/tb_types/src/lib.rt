@@ -1,0 +1,27 @@
+//! The types of programs, as numbers: each shape of a type has one number, and what a number means
+//! never changes. Structs are declared, and later defined, by numbers of their own.
+#![tactic(auto)]
+
+mod builtin;
+mod copies;
+mod facts;
+mod form;
+mod head;
+mod item;
+mod memory;
+mod name;
+mod parts;
+mod shape;
+mod tables;
+#[cfg(test)]
+mod tests;
+mod types;
+
+pub use builtin::Builtin;
+pub use facts::Facts;
+pub use item::{Field, Item};
+pub use memory::Memory;
+pub use name::Name;
+pub use parts::Parts;
+pub use shape::{IntKind, Ty, TyShape};
+pub use types::Types;
