@@ -1,12 +1,13 @@
-ghost use Rattle.std.specs.Prelude.{◌≡◌, ◌<◌, None, IsTrue};
+ghost use Rattle.std.specs.Prelude.{◌≡◌, ◌<◌, ◌≤◌, ◌+◌, length, None, IsTrue, IfSome};
 ghost use Rattle.std.specs.List.{AllByRecursion};
+ghost use Rattle.tb_types.specs.Sound.{IsField};
 ghost use Rattle.tb_types.specs.declared.shape.Ty.{Ty};
-ghost use Rattle.tb_types.specs.Table.{named_in, item_named};
+ghost use Rattle.tb_types.specs.Table.{IsDeclared, named_in, item_named};
 
 use crate::{cells, layout};
 use std::alloc::Global;
 use tb_perm::CellRange;
-use tb_types::{IntKind, Parts, Ty, TyShape, Types};
+use tb_types::{Field, IntKind, Name, Parts, Ty, TyShape, Types};
 
 /// Whether the types are below a number.
 fn are_below(parts: &[Ty], count: u32) -> bool
@@ -38,7 +39,9 @@ fn is_known(shape: &TyShape, count: u32) -> bool
 }
 
 /// The type of a shape, where it names types that are there and no struct.
-fn add(types: &mut Types, shape: TyShape) -> Option<Ty> {
+fn add(types: &mut Types, shape: TyShape) -> Option<Ty>
+    ensures { types.new.items ≡ types.old.items }
+{
     if types.count() > 9999 || !is_known(&shape, types.count()) {
         return None;
     }
@@ -222,4 +225,93 @@ fn cells_have_bytes(rt: HostRuntime) {
     for (ty, wanted) in rows {
         assert!(rt; has_cells(rt.alloc(), &types, Ty(ty), wanted), "{ty}");
     }
+}
+
+/// A field of a type, where it may have it.
+fn field(alloc: Global, types: &Types, ty: Ty) -> Option<Field>
+    ensures { IfSome result (IsField types.now) }
+{
+    if ty.0 >= types.count() || !types.is_complete(ty) {
+        return None;
+    }
+    match Name::new(alloc, "x") {
+        Ok(name) => Some(Field { name, ty }),
+        Err(_) => None,
+    }
+}
+
+/// Gives a struct two fields of these types, where they may have them.
+fn define(alloc: Global, types: &mut Types, item: u32, first: Ty, second: Ty) -> bool
+    requires { IsDeclared types.old item }
+    ensures items { length types.new.items ≡ length types.old.items }
+    ensures shapes { types.new.shapes ≡ types.old.shapes }
+{
+    let (Some(first), Some(second)) = (field(alloc, types, first), field(alloc, types, second))
+    else {
+        return false;
+    };
+    let mut fields = Vec::new(alloc);
+    if types.defined(item) || fields.push(first).is_err() || fields.push(second).is_err() {
+        return false;
+    }
+    types.define(item, fields).is_ok()
+}
+
+/// The type of a new struct of two fields.
+fn add_struct(alloc: Global, types: &mut Types, first: Ty, second: Ty) -> Option<Ty>
+    requires { length types.old.items < 99 }
+    ensures { length types.new.items ≤ length types.old.items + 1 }
+{
+    if types.count() > 9999 {
+        return None;
+    }
+    let Ok(item) = types.declare("S", false) else {
+        return None;
+    };
+    if !define(alloc, types, item, first, second) {
+        return None;
+    }
+    match types.intern(TyShape::Struct(item)) {
+        Ok(ty) => Some(ty),
+        Err(_) => None,
+    }
+}
+
+#[test]
+fn structs_have_layouts(rt: HostRuntime) {
+    let mut types = Types::new(rt.alloc());
+    let _ = add(&mut types, TyShape::Int(IntKind::U8));
+    let _ = add(&mut types, TyShape::Int(IntKind::I32));
+    let alloc = rt.alloc();
+    // A byte, three bytes of padding, and an integer; a struct of that and a byte; a cell of the first.
+    assert_eq!(rt; add_struct(alloc, &mut types, Ty(0), Ty(1)), Some(Ty(2)));
+    assert_eq!(rt; measured(alloc, &types, Ty(2)), Some((8, 4)));
+    assert!(rt; has_offsets(alloc, &types, Ty(2), &[0, 4]));
+    assert_eq!(rt; add_struct(alloc, &mut types, Ty(2), Ty(0)), Some(Ty(3)));
+    assert_eq!(rt; measured(alloc, &types, Ty(3)), Some((12, 4)));
+    assert!(rt; has_offsets(alloc, &types, Ty(3), &[0, 8]));
+    assert_eq!(rt; add(&mut types, TyShape::Cell(Ty(2))), Some(Ty(4)));
+    assert!(rt; has_cells(alloc, &types, Ty(4), &[range(0, 8)]));
+    assert_eq!(rt; add_struct(alloc, &mut types, Ty(0), Ty(4)), Some(Ty(5)));
+    assert!(rt; has_cells(alloc, &types, Ty(5), &[range(4, 12)]));
+}
+
+#[test]
+fn chains_of_structs_end(rt: HostRuntime) {
+    // Each holds the one before twice. Twenty have 1,048,576 bytes, and forty end at once.
+    let mut types = Types::new(rt.alloc());
+    let mut last = add(&mut types, TyShape::Int(IntKind::U8));
+    for at in 0..40u32 {
+        let Some(part) = last else {
+            assert!(rt; false);
+            return;
+        };
+        last = add_struct(rt.alloc(), &mut types, part, part);
+        if at == 19 {
+            assert_eq!(rt; measured(rt.alloc(), &types, Ty(20)), Some((1_048_576, 1)));
+        }
+    }
+    assert_eq!(rt; last, Some(Ty(40)));
+    assert_eq!(rt; measured(rt.alloc(), &types, Ty(21)), None);
+    assert_eq!(rt; measured(rt.alloc(), &types, Ty(40)), None);
 }
