@@ -1,5 +1,7 @@
-pub mod Numbering
-pub mod Counted
-pub mod Whole
+pub mod Numbered
+pub mod Clears
 pub mod Loops
-pub mod Realised
+pub mod Counted
+pub mod Readiness
+pub mod Bare
+pub mod Ends

@@ -1,4 +1,4 @@
-pub mod Names
+pub mod Ways
 pub mod Lowering
-pub mod Counting
+pub mod Pieces
 pub mod Ready

@@ -1,9 +1,17 @@
 //! Lowers the tree of a source to the middle representation.
 #![tactic(auto)]
 
-mod lower;
+mod laws;
+mod lowering;
+mod memory;
+mod source;
+mod spans;
+mod statements;
+mod values;
 
-pub use lower::{Memory, lower_source};
+pub use laws::law_names;
+pub use memory::Memory;
+pub use source::lower_source;
 
 #[cfg(test)]
 mod tests;

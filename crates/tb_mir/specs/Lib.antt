@@ -1,2 +1,3 @@
 pub mod Mir
 pub mod Ty
+pub mod Retags

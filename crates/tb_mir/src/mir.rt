@@ -16,7 +16,16 @@ pub enum Ty {
 
 impl Ty {
     ghost use Rattle.std.specs.Prelude.{◌≡◌};
+    ghost use Rattle.tb_mir.specs.Retags.{holds_retag};
     ghost use Rattle.tb_mir.specs.Ty.{size_of};
+
+    /// Whether a value is a reference, which gets a tag of its own where it is made and where it is
+    /// loaded.
+    pub fn holds_retag(self) -> bool
+        ensures { result ≡ holds_retag self }
+    {
+        matches!(self, Ty::Pointer(RefKind::Shared | RefKind::Mut))
+    }
 
     /// How many bytes a value has (Rust Reference, type layout).
     pub fn size(self) -> u32
@@ -44,6 +53,19 @@ pub enum LocalKind {
 pub struct Local {
     pub kind: LocalKind,
     pub ty: Ty,
+}
+
+impl Local {
+    ghost use Rattle.std.specs.Prelude.{◌≡◌, Some};
+    ghost use Rattle.tb_mir.specs.Retags.{is_retagged};
+
+    /// Whether a pointer that the local is given is retagged: a reference is, but not in a temporary
+    /// for a place.
+    pub fn is_retagged(self) -> bool
+        ensures { result ≡ is_retagged (Some self) }
+    {
+        self.ty.holds_retag() && self.kind != LocalKind::PlaceTemp
+    }
 }
 
 /// Lines that run one after another. The last is a terminator.

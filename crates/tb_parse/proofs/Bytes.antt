@@ -1,9 +1,9 @@
 -- Bytes of identifiers, words and numbers.
-use Rattle.std.proofs.Common.{◌≡◌, ℕ, ◌+◌, ◌-◌, ◌*◌, ◌<◌, ◌≤◌, true, false, cond, ◌&&◌, not, leb, List, [], ◌∷◌, ◌++◌, length, take, get_or, Some, None, refl, ap, ◌∙◌, arith, inl, inr, length-append}
+use Rattle.std.proofs.Common.{◌≡◌, ℕ, ◌+◌, ◌-◌, ◌*◌, ◌<◌, ◌≤◌, true, false, cond, ◌&&◌, ◌||◌, not, eqb, leb, List, [], ◌∷◌, ◌++◌, length, take, get_or, Some, None, refl, ap, subst, ◌∙◌, arith, inl, inr, length-append}
 use Rattle.std.specs.List.{list_all}
-use Rattle.std.proofs.lemmas.Bool.{cases_Bool, lt-leb}
+use Rattle.std.proofs.lemmas.Bool.{cases_Bool, ne_eqb, lt-leb}
 use Rattle.std.proofs.lemmas.List.{take_at}
-use Rattle.tb_parse.specs.Words.{is_word_byte, begins_word, is_apart, is_number, value_from, value_of}
+use Rattle.tb_parse.specs.Words.{is_word_byte, begins_with, begins_word, is_lengthened, is_apart, is_number, value_from, value_of}
 use Rattle.tb_parse.specs.Reading.{word_of, after_word, literal_value}
 use Rattle.tb_parse.proofs.Options.{both}
 
@@ -36,9 +36,26 @@ word-all (byte ∷ text) = elim (cases_Bool (is_word_byte byte)) [
   | inr other ↦ rw other refl
 ]
 
+-- a byte of identifiers is no sign
+pub word-byte : (byte sign : ℕ) → is_word_byte byte ≡ true → is_word_byte sign ≡ false → eqb byte sign ≡ false
+word-byte byte sign is other = ne_eqb byte sign (λ e. let here : is_word_byte sign ≡ true = subst (λ b. is_word_byte b ≡ true) e is in absurd cc)
+
+pub word-first : (sign : ℕ) (word rest : List ℕ) → begins_word word ≡ true → is_word_byte sign ≡ false → begins_with sign (word ++ rest) ≡ false
+word-first sign [] rest begins other = absurd cc
+word-first sign (byte ∷ word) rest begins other = word-byte byte sign begins other
+
+-- and nothing makes a word of identifiers' bytes a longer sign
+word-lengthened : (word rest : List ℕ) → list_all is_word_byte word ≡ true → is_lengthened word rest ≡ false
+word-lengthened [] rest all = refl
+word-lengthened (byte ∷ word) rest all =
+    let is = (both (is_word_byte byte) (list_all is_word_byte word) all).0 in
+    rw (word-byte byte 33 is refl, word-byte byte 38 is refl, word-byte byte 42 is refl, word-byte byte 43 is refl, word-byte byte 61 is refl) refl
+
 -- so a word that is read ends where it ends
 pub word-apart : (text : List ℕ) → is_apart (word_of text) (after_word text) ≡ true
-word-apart text = rw word-next (elim (begins_word (word_of text)) as (λ b. not (b && false) ≡ true) [ true ↦ refl | false ↦ refl ])
+word-apart text =
+    rw (word-next text, word-lengthened (word_of text) (after_word text) (word-all text))
+    (elim (begins_word (word_of text)) as (λ b. not ((b && false) || false) ≡ true) [ true ↦ refl | false ↦ refl ])
 
 -- a word of such bytes, with none behind it, is read whole
 pub word-again : (word rest : List ℕ) → list_all is_word_byte word ≡ true → begins_word rest ≡ false → (word_of (word ++ rest) ≡ word) × (after_word (word ++ rest) ≡ rest)

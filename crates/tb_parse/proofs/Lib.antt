@@ -6,7 +6,10 @@ pub mod Scopes
 pub mod Counts
 pub mod Nexts
 pub mod Literals
-pub mod Atoms
+pub mod Variables
+pub mod Spots
 pub mod Additions
+pub mod Rights
+pub mod Forms
 pub mod Bodies
 pub mod Sources

@@ -8,7 +8,8 @@ use Rattle.std.proofs.lemmas.List.Concat.{flat_map-cons}
 use Rattle.tb_parse.specs.declared.tree.Text.{Text}
 use Rattle.tb_parse.specs.Words.{after_space, Begins}
 use Rattle.tb_parse.specs.Grammar.{is_plain, Piece, Plain, Feed, Hole, IsPiece, spelled, holes, IsFormat, literal, spanned}
-use Rattle.tb_parse.specs.Reading.{eat, begins_with, piece_at, holes_at, text_at}
+use Rattle.tb_parse.specs.Words.{begins_with}
+use Rattle.tb_parse.specs.Reading.{eat, piece_at, holes_at, text_at}
 use Rattle.tb_parse.proofs.Options.{bind_some, kept, chosen, some_is, both, neither, not_is}
 use Rattle.tb_parse.proofs.Tokens.{eat-takes, eat-again, exactly}
 use Rattle.tb_parse.proofs.Many.{Chain, many-takes, many-again, chain-length}

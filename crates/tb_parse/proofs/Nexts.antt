@@ -9,6 +9,7 @@ use Rattle.tb_parse.specs.declared.error.SmallError.{SmallError}
 use Rattle.tb_parse.specs.declared.error.SmallError.TheVariants as errors
 use Rattle.tb_parse.specs.Scope.{Binding}
 use Rattle.tb_parse.specs.declared.tree.Statement.{Statement}
+use Rattle.tb_parse.specs.declared.tree.Statement.TheVariants as statement
 use Rattle.tb_parse.specs.Grammar.{bindings, statement_locals, locals}
 use Rattle.tb_parse.specs.Reading.{Fails, statement_at, next_statement_at, within}
 use Rattle.tb_parse.proofs.Counts.{within-some, within-none}
@@ -19,12 +20,19 @@ scope-push items next = flat_map-append bindings items (next ∷ []) ∙ ap (λ 
 pub locals-push : (items : List Statement) (next : Statement) → locals (items ++ next ∷ []) ≡ locals items + statement_locals next
 locals-push items next = let h = sum_by_push statement_locals items next in omega arith
 
+bindings-few : (next : Statement) → length (bindings next) ≤ statement_locals next
+bindings-few (statement.Let binding) = omega arith
+bindings-few (statement.Assign assign) = omega arith
+bindings-few (statement.Print print) = omega arith
+bindings-few (statement.Unsafe block) = omega arith
+
 -- each `let` is a local
 pub lets-few : (items : List Statement) → length (flat_map bindings items) ≤ sum_by statement_locals items
 lets-few [] = omega arith
 lets-few (next ∷ items) =
     let here = sum_by-cons statement_locals next items in
     let count = length-append (bindings next) (flat_map bindings items) in
+    let first = bindings-few next in
     let others = lets-few items in
     omega arith
 

@@ -6,12 +6,11 @@ use Rattle.std.proofs.lemmas.List.{nil_from_length}
 use Rattle.tb_parse.specs.declared.error.SmallError.{SmallError}
 use Rattle.tb_parse.specs.declared.error.SmallError.TheVariants as errors
 use Rattle.tb_parse.specs.declared.tree.SmallTree.{SmallTree}
-use Rattle.tb_parse.specs.Words.{after_space, Token}
+use Rattle.tb_parse.specs.Words.{after_space, begins_with, Token}
 use Rattle.tb_parse.specs.Grammar.{closing, statements_tokens, IsSmall}
-use Rattle.tb_parse.specs.Reading.{Gives, eat, begins_with, statements_at, small_at}
+use Rattle.tb_parse.specs.Reading.{Gives, eat, statements_at, small_at}
 use Rattle.tb_parse.proofs.Options.{bind_some, kept, some_is}
-use Rattle.tb_parse.proofs.Tokens.{token-again, token-takes, opening-takes, closing-takes, reads-then, reads-split}
-use Rattle.tb_parse.proofs.Additions.{token-byte}
+use Rattle.tb_parse.proofs.Tokens.{token-again, token-takes, token-byte, opening-takes, closing-takes, reads-then, reads-split}
 use Rattle.tb_parse.proofs.Bodies.{statements-take, statements-again}
 
 pub small-takes : (text : List ℕ) (tree : SmallTree) → small_at text ≡ Some tree → IsSmall text tree

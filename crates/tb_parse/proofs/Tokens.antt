@@ -115,3 +115,11 @@ reads-shrinks size (token ∷ tokens) text rest h =
 pub strip-is : (word text : List ℕ) (r : Option (Bor (List ℕ))) → MatchOption r ((rest : List ℕ) → text ≢ word ++ rest) (λ x. text ≡ word ++ x.now) → strip word text ≡ option_copied r
 strip-is word text None h = strip-none word text h
 strip-is word text (Some x) h = ap (strip word) h ∙ strip-again word x.now
+
+-- where a token of one byte stands next, that byte does
+pub token-byte : (size : ℕ) (text : List ℕ) (byte : ℕ) (lo hi : Option ℕ) (rest : List ℕ) → Begins size text (record { spelling = Exactly (byte ∷ []); lo = lo; hi = hi }) rest → after_space text ≡ byte ∷ rest
+token-byte size text byte lo hi rest h = (exactly size text (byte ∷ []) lo hi rest h).0
+
+-- one token alone
+pub reads-one : (size : ℕ) (text : List ℕ) (token : Token) (rest : List ℕ) → Reads size text (token ∷ []) rest → Begins size text token rest
+reads-one size text token rest h = subst (λ r. Begins size text token r) h.2 h.1

@@ -27,10 +27,23 @@ abbrev pub begins_digit : List ℕ → Bool
 begins_digit [] = false
 begins_digit (byte ∷ text) = is_ascii_digit byte
 
--- the word ends where the rest begins: a token is the longest that stands there, so of two pieces
--- of identifiers one never follows the other at once
+-- this byte is at the front
+abbrev pub begins_with : ℕ → List ℕ → Bool
+begins_with wanted [] = false
+begins_with wanted (byte ∷ text) = byte == wanted
+
+-- the rest makes this sign a longer one: behind `!`, `&`, `*`, `+` or `=` stands `=`, or `&` behind `&`
+abbrev pub is_lengthened : List ℕ → List ℕ → Bool
+is_lengthened [] rest = false
+is_lengthened (sign ∷ word) rest =
+    ((sign == 33 || sign == 38 || sign == 42 || sign == 43 || sign == 61) && begins_with 61 rest)
+    || (sign == 38 && begins_with 38 rest)
+
+-- the word ends where the rest begins: a token is the longest that stands there (Rust Reference,
+-- Tokens), so of two pieces of identifiers one never follows the other at once, and no sign is
+-- followed by what makes it a longer one
 abbrev pub is_apart : List ℕ → List ℕ → Bool
-is_apart word rest = not (begins_word word && begins_word rest)
+is_apart word rest = not ((begins_word word && begins_word rest) || is_lengthened word rest)
 
 -- the keywords (Rust Reference, Keywords) that have a rule in this language
 abbrev pub used_keywords : List (List ℕ)

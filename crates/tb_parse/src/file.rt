@@ -34,14 +34,25 @@ fn file_at(alloc: Global, text: &[u8]) -> Result<SmallTree, SmallError>
     })
 }
 
-/// Reads a source: a function `main` with variables, sums and prints.
+/// Reads a source: a function `main` with variables, sums, pointers, `unsafe` and prints.
 ///
-/// Tokens stand apart by spaces and line feeds alone; comments are not read yet. Between the quotes of
-/// a text stand printable ASCII bytes other than `"`, `\`, `{` and `}`, the escape `\n`, and one `{}`
-/// for each argument. A variable is the newest `let` of its name, and may be assigned where that has
-/// `mut`. Literals are decimal `i32`s, a sum has up to 64 atoms, and the function up to 4,096 locals:
-/// one for its result, one for each `let`, and a temporary for each variable that a sum reads and for
-/// each `+`.
+/// Tokens stand apart by spaces and line feeds alone, and each is the longest that stands at its place;
+/// comments are not read yet. Between the quotes of a text stand printable ASCII bytes other than `"`,
+/// `\`, `{` and `}`, the escape `\n`, and one `{}` for each argument.
+///
+/// A variable is the newest `let` of its name, and has the type of its first value: `i32`, or a
+/// reference or a raw pointer to an `i32`. What is borrowed by `&`, `&mut`, `&raw const` or `&raw mut` is
+/// an `i32` variable, or `*p` for a pointer variable `p`. An assigned value has the type of its place.
+/// Variables that are `i32`s or raw pointers may be assigned, and borrowed by `&mut` and `&raw mut`, where
+/// their `let` has `mut`, and `*p` may be where `p` was made by `&mut` or `&raw mut`. Atoms are `i32`s,
+/// a raw pointer is copied by its name alone, and a reference stands only under `*`. A raw pointer does so
+/// only inside `unsafe`, which is a block of assignments and prints, or stands around a right side (Rust
+/// Reference, Unsafety).
+///
+/// Literals are decimal `i32`s, a sum has up to 64 atoms, and the function up to 4,096 locals: one for
+/// its result, one for each `let`, and temporaries. Of these a sum has one for each variable, two for each
+/// `*p` and one for each `+`, a borrow and a copied pointer have one, and so has each `*p` that is borrowed
+/// or assigned.
 ///
 /// # Errors
 ///

@@ -1,20 +1,21 @@
 //! What a name means.
 
-ghost use Rattle.std.specs.Prelude.{◌≡◌, ◌++◌, ◌≤◌, length, OnOk, IfErr};
-ghost use Rattle.tb_parse.specs.Grammar.{bindings, is_mutable};
-ghost use Rattle.tb_parse.specs.Reading.{Gives, last_named};
+ghost use Rattle.std.specs.Prelude.{◌≡◌, ◌++◌, ◌<◌, ◌≤◌, length, OnOk, IfErr, IfSome};
+ghost use Rattle.tb_parse.specs.Grammar.{bindings, is_mutable, type_of};
+ghost use Rattle.tb_parse.specs.Reading.{last_named};
 
 use crate::error::SmallError;
-use crate::tree::Statement;
+use crate::tree::{Statement, Ty};
 use sqlite_items::Items;
 use std::alloc::Global;
 use std::marker::Model;
 
-/// A name that is in scope, and whether its variable may be assigned.
+/// A name that is in scope, whether its variable may be assigned, and its type.
 #[derive(Debug, Drop)]
 pub struct Known {
     name: Items<u8>,
     mutable: bool,
+    ty: Ty,
 }
 
 impl Model for Known {
@@ -22,21 +23,21 @@ impl Model for Known {
 
     ghost Value = { Binding };
 
-    ghost view = { λ known. record { name = known.name; mutable = known.mutable } };
+    ghost view = { λ known. record { name = known.name; mutable = known.mutable; ty = known.ty } };
 }
 
-/// The number of the last variable of this name.
-pub fn number_of(scope: &[Known], name: &[u8]) -> Result<u32, SmallError>
+/// The number of the last variable of this name, if there is one.
+pub fn number_of(scope: &[Known], name: &[u8]) -> Option<u32>
     requires { length scope.now ≤ 4096 }
-    ensures { Gives (λ number. number) result (last_named scope.now name.now) }
+    ensures { result ≡ last_named scope.now name.now }
 {
     for number in (0..scope.len()).rev() {
         let known = &scope[number];
         if known.name.as_slice() == name {
-            return Ok(number as u32);
+            return Some(number as u32);
         }
     }
-    Err(SmallError::NotBuilt)
+    None
 }
 
 /// Whether the variable of this number may be assigned.
@@ -46,6 +47,16 @@ pub fn is_mutable(scope: &[Known], number: u32) -> bool
     match scope.get(number as usize) {
         Some(known) => known.mutable,
         None => false,
+    }
+}
+
+/// The type of the variable of this number, or `i32` where there is none.
+pub fn type_of(scope: &[Known], number: u32) -> Ty
+    ensures { result ≡ type_of scope.now number }
+{
+    match scope.get(number as usize) {
+        Some(known) => known.ty,
+        None => Ty::Int32,
     }
 }
 
@@ -59,8 +70,9 @@ pub fn bind(alloc: Global, scope: &mut Vec<Known>, statement: &Statement) -> Res
             |_| SmallError::Memory,
         )?;
         let mutable = binding.mutable;
+        let ty = binding.ty;
         scope
-            .push(Known { name, mutable })
+            .push(Known { name, mutable, ty })
             .map_err(|_| SmallError::Memory)?;
     }
     Ok(())

@@ -1,14 +1,16 @@
 //! Statements.
 
 ghost use Rattle.std.specs.Prelude.{◌≡◌, ◌≤◌, length};
-ghost use Rattle.tb_parse.specs.Reading.{Gives, mut_at, let_at, target_at, assign_at, print_at, is_call, statement_at, closes, statements_at};
+ghost use Rattle.tb_parse.specs.Reading.{Gives, mut_at, let_at, assign_at, macro_at, print_at, is_call, inner_at, closes, inners_at, unsafe_at, statement_at, statements_at};
 
 use crate::error::SmallError;
 use crate::limits::plus_statement;
-use crate::scope::{Known, bind, is_mutable};
-use crate::sums::{arguments_at, sum_at, variable_at};
+use crate::places::{same_type, spot_type, target_at};
+use crate::scope::{Known, bind};
+use crate::sums::arguments_at;
 use crate::texts::text_at;
-use crate::tree::{Assign, Let, Name, Print, Statement, Variable};
+use crate::tree::{Assign, Inner, Let, Name, Print, Statement, UnsafeBlock};
+use crate::values::{right_at, right_type};
 use crate::words::{eat, has_byte, has_word, name_at, next_word, span_of};
 use sqlite_items::Items;
 use std::alloc::Global;
@@ -42,7 +44,7 @@ fn let_at<'a>(
     let (mutable, front) = mut_at(keyword)?;
     let (word, after) = name_at(front)?;
     let equals = eat(b"=", after)?;
-    let (value, semicolon) = sum_at(alloc, scope, size, equals)?;
+    let (value, semicolon) = right_at(alloc, scope, false, size, equals)?;
     let rest = eat(b";", semicolon)?;
     let bytes = Items::from_slice(alloc, word).map_err(|_| SmallError::Memory)?;
     let name = Name {
@@ -50,34 +52,17 @@ fn let_at<'a>(
         bytes,
     };
     let span = span_of(size, text, rest);
+    let ty = right_type(scope, &value);
     Ok((
         Let {
             span,
             mutable,
             name,
+            ty,
             value,
         },
         rest,
     ))
-}
-
-/// The variable with `mut` that comes next, and what follows it.
-#[tactic(auto, unfolding(crate::specs::Reading::target_at))]
-fn target_at<'a>(
-    scope: &[Known],
-    size: usize,
-    text: &'a [u8],
-) -> Result<(Variable, &'a [u8]), SmallError>
-    requires size { size ≤ 1048576 }
-    requires room { length scope.now ≤ 4096 }
-    ensures { Gives (λ x. (x.0, x.1.now)) result (target_at scope.now size text.now) }
-{
-    let (target, rest) = variable_at(scope, size, text)?;
-    if is_mutable(scope, target.number) {
-        Ok((target, rest))
-    } else {
-        Err(SmallError::NotBuilt)
-    }
 }
 
 /// The assignment that comes next, and what follows its semicolon.
@@ -85,17 +70,21 @@ fn target_at<'a>(
 fn assign_at<'a>(
     alloc: Global,
     scope: &[Known],
+    inside: bool,
     size: usize,
     text: &'a [u8],
 ) -> Result<(Assign, &'a [u8]), SmallError>
     requires size { size ≤ 1048576 }
     requires room { length scope.now ≤ 4096 }
-    ensures { Gives (λ x. (x.0, x.1.now)) result (assign_at scope.now size text.now) }
+    ensures { Gives (λ x. (x.0, x.1.now)) result (assign_at scope.now inside size text.now) }
 {
-    let (target, after) = target_at(scope, size, text)?;
+    let (target, after) = target_at(scope, inside, size, text)?;
     let equals = eat(b"=", after)?;
-    let (value, semicolon) = sum_at(alloc, scope, size, equals)?;
+    let (value, semicolon) = right_at(alloc, scope, inside, size, equals)?;
     let rest = eat(b";", semicolon)?;
+    if !same_type(right_type(scope, &value), spot_type(scope, target)) {
+        return Err(SmallError::NotBuilt);
+    }
     let span = span_of(size, text, rest);
     Ok((
         Assign {
@@ -107,23 +96,38 @@ fn assign_at<'a>(
     ))
 }
 
-/// The call of `print!` that comes next, and what follows its semicolon.
+/// Whether the macro that comes next is `println`, and what follows its name.
+#[tactic(auto, unfolding(crate::specs::Reading::macro_at))]
+fn macro_at(text: &[u8]) -> Result<(bool, &[u8]), SmallError>
+    ensures { Gives (λ x. (x.0, x.1.now)) result (macro_at text.now) }
+{
+    if has_word(b"println", text) {
+        let rest = eat(b"println", text)?;
+        Ok((true, rest))
+    } else {
+        let rest = eat(b"print", text)?;
+        Ok((false, rest))
+    }
+}
+
+/// The call of `print!` or `println!` that comes next, and what follows its semicolon.
 #[tactic(auto, unfolding(crate::specs::Reading::print_at))]
 fn print_at<'a>(
     alloc: Global,
     scope: &[Known],
+    inside: bool,
     size: usize,
     text: &'a [u8],
 ) -> Result<(Print, &'a [u8]), SmallError>
     requires size { size ≤ 1048576 }
     requires room { length scope.now ≤ 4096 }
-    ensures { Gives (λ x. (x.0, x.1.now)) result (print_at scope.now size text.now) }
+    ensures { Gives (λ x. (x.0, x.1.now)) result (print_at scope.now inside size text.now) }
 {
-    let name = eat(b"print", text)?;
+    let (newline, name) = macro_at(text)?;
     let bang = eat(b"!", name)?;
     let paren = eat(b"(", bang)?;
     let (literal, holes, after) = text_at(alloc, size, paren)?;
-    let (arguments, close) = arguments_at(alloc, scope, size, after)?;
+    let (arguments, close) = arguments_at(alloc, scope, inside, size, after)?;
     let semicolon = eat(b")", close)?;
     let rest = eat(b";", semicolon)?;
     if arguments.len() != holes {
@@ -135,6 +139,7 @@ fn print_at<'a>(
         Print {
             span,
             call,
+            newline,
             text: literal,
             arguments,
         },
@@ -148,6 +153,82 @@ fn is_call(text: &[u8]) -> bool
 {
     let (_, rest) = next_word(text);
     has_byte(b'!', rest)
+}
+
+/// The statement of an `unsafe` block that comes next, and what follows it.
+#[tactic(auto, unfolding(crate::specs::Reading::inner_at))]
+fn inner_at<'a>(
+    alloc: Global,
+    scope: &[Known],
+    size: usize,
+    text: &'a [u8],
+) -> Result<(Inner, &'a [u8]), SmallError>
+    requires size { size ≤ 1048576 }
+    requires room { length scope.now ≤ 4096 }
+    ensures { Gives (λ x. (x.0, x.1.now)) result (inner_at scope.now size text.now) }
+{
+    if is_call(text) {
+        let (print, rest) = print_at(alloc, scope, true, size, text)?;
+        Ok((Inner::Print(print), rest))
+    } else {
+        let (assign, rest) = assign_at(alloc, scope, true, size, text)?;
+        Ok((Inner::Assign(assign), rest))
+    }
+}
+
+fn closes(text: &[u8]) -> bool
+    ensures { result ≡ closes text.now }
+{
+    has_byte(b'}', text)
+}
+
+/// The statements of an `unsafe` block up to the brace that closes it, and the text from there on.
+#[tactic(auto, using(crate::proofs::Many::loops), unfolding(crate::specs::Reading::inners_at))]
+fn inners_at<'a>(
+    alloc: Global,
+    scope: &[Known],
+    size: usize,
+    text: &'a [u8],
+) -> Result<(Items<Inner>, &'a [u8]), SmallError>
+    requires size { size ≤ 1048576 }
+    requires room { length scope.now ≤ 4096 }
+    ensures { Gives (λ x. (x.0, x.1.now)) result (inners_at scope.now size text.now) }
+{
+    let mut statements = Items::new(alloc);
+    let mut rest = text;
+    for _ in 0..text.len() {
+        if closes(rest) {
+            return Ok((statements, rest));
+        }
+        let (statement, after) = inner_at(alloc, scope, size, rest)?;
+        statements.push(statement).map_err(|_| SmallError::Memory)?;
+        rest = after;
+    }
+    if closes(rest) {
+        Ok((statements, rest))
+    } else {
+        Err(SmallError::NotBuilt)
+    }
+}
+
+/// The `unsafe` block that comes next, and what follows its brace.
+#[tactic(auto, unfolding(crate::specs::Reading::unsafe_at))]
+fn unsafe_at<'a>(
+    alloc: Global,
+    scope: &[Known],
+    size: usize,
+    text: &'a [u8],
+) -> Result<(UnsafeBlock, &'a [u8]), SmallError>
+    requires size { size ≤ 1048576 }
+    requires room { length scope.now ≤ 4096 }
+    ensures { Gives (λ x. (x.0, x.1.now)) result (unsafe_at scope.now size text.now) }
+{
+    let keyword = eat(b"unsafe", text)?;
+    let brace = eat(b"{", keyword)?;
+    let (statements, close) = inners_at(alloc, scope, size, brace)?;
+    let rest = eat(b"}", close)?;
+    let span = span_of(size, text, rest);
+    Ok((UnsafeBlock { span, statements }, rest))
 }
 
 /// The statement that comes next, and what follows it.
@@ -166,18 +247,16 @@ fn statement_at<'a>(
         let (binding, rest) = let_at(alloc, scope, size, text)?;
         return Ok((Statement::Let(binding), rest));
     }
+    if has_word(b"unsafe", text) {
+        let (block, rest) = unsafe_at(alloc, scope, size, text)?;
+        return Ok((Statement::Unsafe(block), rest));
+    }
     if is_call(text) {
-        let (print, rest) = print_at(alloc, scope, size, text)?;
+        let (print, rest) = print_at(alloc, scope, false, size, text)?;
         return Ok((Statement::Print(print), rest));
     }
-    let (assign, rest) = assign_at(alloc, scope, size, text)?;
+    let (assign, rest) = assign_at(alloc, scope, false, size, text)?;
     Ok((Statement::Assign(assign), rest))
-}
-
-fn closes(text: &[u8]) -> bool
-    ensures { result ≡ closes text.now }
-{
-    has_byte(b'}', text)
 }
 
 /// The statements up to the brace that closes them, and the text from there on.

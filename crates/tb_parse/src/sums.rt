@@ -1,12 +1,13 @@
 //! Atoms, sums and arguments.
 
 ghost use Rattle.std.specs.Prelude.{◌≡◌, ◌≤◌, length};
-ghost use Rattle.tb_parse.specs.Reading.{Gives, variable_at, int_at, literal_value, atom_at, next_atom_at, ends_sum, atoms_at, sum_at, next_argument_at, ends_arguments, arguments_at};
+ghost use Rattle.tb_parse.specs.Reading.{Gives, int_at, literal_value, atom_at, next_atom_at, ends_sum, atoms_at, sum_at, next_argument_at, ends_arguments, arguments_at};
 
 use crate::error::SmallError;
-use crate::scope::{Known, number_of};
-use crate::tree::{Atom, Int, Sum, Variable};
-use crate::words::{eat, has_byte, is_name, is_number, name_at, next_word, span_of};
+use crate::places::{deref_at, int_variable_at};
+use crate::scope::Known;
+use crate::tree::{Atom, Int, Sum};
+use crate::words::{eat, has_byte, is_name, is_number, next_word, span_of};
 use sqlite_items::Items;
 use std::alloc::Global;
 
@@ -15,23 +16,6 @@ const MAX_VALUE: u64 = 2_147_483_647;
 
 /// How many atoms a sum may have behind its first.
 const MAX_MORE_ATOMS: usize = 63;
-
-/// The variable that comes next, and what follows it.
-#[tactic(auto, unfolding(crate::specs::Reading::variable_at))]
-pub fn variable_at<'a>(
-    scope: &[Known],
-    size: usize,
-    text: &'a [u8],
-) -> Result<(Variable, &'a [u8]), SmallError>
-    requires size { size ≤ 1048576 }
-    requires room { length scope.now ≤ 4096 }
-    ensures { Gives (λ x. (x.0, x.1.now)) result (variable_at scope.now size text.now) }
-{
-    let (name, rest) = name_at(text)?;
-    let number = number_of(scope, name)?;
-    let span = span_of(size, text, rest);
-    Ok((Variable { span, number }, rest))
-}
 
 /// What a word of digits stands for, if that is in range.
 #[tactic(auto, unfolding(crate::specs::Reading::literal_value))]
@@ -65,16 +49,25 @@ fn int_at(size: usize, text: &[u8]) -> Result<(Int, &[u8]), SmallError>
     Ok((Int { span, value }, rest))
 }
 
-/// The literal or variable that comes next, and what follows it.
+/// The literal or `i32` place that comes next, and what follows it.
 #[tactic(auto, unfolding(crate::specs::Reading::atom_at))]
-fn atom_at<'a>(scope: &[Known], size: usize, text: &'a [u8]) -> Result<(Atom, &'a [u8]), SmallError>
+fn atom_at<'a>(
+    scope: &[Known],
+    inside: bool,
+    size: usize,
+    text: &'a [u8],
+) -> Result<(Atom, &'a [u8]), SmallError>
     requires size { size ≤ 1048576 }
     requires room { length scope.now ≤ 4096 }
-    ensures { Gives (λ x. (x.0, x.1.now)) result (atom_at scope.now size text.now) }
+    ensures { Gives (λ x. (x.0, x.1.now)) result (atom_at scope.now inside size text.now) }
 {
+    if has_byte(b'*', text) {
+        let (deref, rest) = deref_at(scope, inside, size, text)?;
+        return Ok((Atom::Deref(deref), rest));
+    }
     let (word, _) = next_word(text);
     if is_name(word) {
-        let (variable, rest) = variable_at(scope, size, text)?;
+        let (variable, rest) = int_variable_at(scope, size, text)?;
         Ok((Atom::Variable(variable), rest))
     } else {
         let (int, rest) = int_at(size, text)?;
@@ -86,15 +79,16 @@ fn atom_at<'a>(scope: &[Known], size: usize, text: &'a [u8]) -> Result<(Atom, &'
 #[tactic(auto, unfolding(crate::specs::Reading::next_atom_at))]
 fn next_atom_at<'a>(
     scope: &[Known],
+    inside: bool,
     size: usize,
     text: &'a [u8],
 ) -> Result<(Atom, &'a [u8]), SmallError>
     requires size { size ≤ 1048576 }
     requires room { length scope.now ≤ 4096 }
-    ensures { Gives (λ x. (x.0, x.1.now)) result (next_atom_at scope.now size text.now) }
+    ensures { Gives (λ x. (x.0, x.1.now)) result (next_atom_at scope.now inside size text.now) }
 {
     let rest = eat(b"+", text)?;
-    atom_at(scope, size, rest)
+    atom_at(scope, inside, size, rest)
 }
 
 fn ends_sum(text: &[u8]) -> bool
@@ -108,12 +102,13 @@ fn ends_sum(text: &[u8]) -> bool
 fn atoms_at<'a>(
     alloc: Global,
     scope: &[Known],
+    inside: bool,
     size: usize,
     text: &'a [u8],
 ) -> Result<(Items<Atom>, &'a [u8]), SmallError>
     requires size { size ≤ 1048576 }
     requires room { length scope.now ≤ 4096 }
-    ensures { Gives (λ x. (x.0, x.1.now)) result (atoms_at scope.now size text.now) }
+    ensures { Gives (λ x. (x.0, x.1.now)) result (atoms_at scope.now inside size text.now) }
 {
     let mut atoms = Items::new(alloc);
     let mut rest = text;
@@ -121,7 +116,7 @@ fn atoms_at<'a>(
         if ends_sum(rest) {
             return Ok((atoms, rest));
         }
-        let (atom, after) = next_atom_at(scope, size, rest)?;
+        let (atom, after) = next_atom_at(scope, inside, size, rest)?;
         atoms.push(atom).map_err(|_| SmallError::Memory)?;
         rest = after;
     }
@@ -137,15 +132,16 @@ fn atoms_at<'a>(
 pub fn sum_at<'a>(
     alloc: Global,
     scope: &[Known],
+    inside: bool,
     size: usize,
     text: &'a [u8],
 ) -> Result<(Sum, &'a [u8]), SmallError>
     requires size { size ≤ 1048576 }
     requires room { length scope.now ≤ 4096 }
-    ensures { Gives (λ x. (x.0, x.1.now)) result (sum_at scope.now size text.now) }
+    ensures { Gives (λ x. (x.0, x.1.now)) result (sum_at scope.now inside size text.now) }
 {
-    let (first, rest) = atom_at(scope, size, text)?;
-    let (more, rest) = atoms_at(alloc, scope, size, rest)?;
+    let (first, rest) = atom_at(scope, inside, size, text)?;
+    let (more, rest) = atoms_at(alloc, scope, inside, size, rest)?;
     Ok((Sum { first, rest: more }, rest))
 }
 
@@ -154,15 +150,16 @@ pub fn sum_at<'a>(
 fn next_argument_at<'a>(
     alloc: Global,
     scope: &[Known],
+    inside: bool,
     size: usize,
     text: &'a [u8],
 ) -> Result<(Sum, &'a [u8]), SmallError>
     requires size { size ≤ 1048576 }
     requires room { length scope.now ≤ 4096 }
-    ensures { Gives (λ x. (x.0, x.1.now)) result (next_argument_at scope.now size text.now) }
+    ensures { Gives (λ x. (x.0, x.1.now)) result (next_argument_at scope.now inside size text.now) }
 {
     let rest = eat(b",", text)?;
-    sum_at(alloc, scope, size, rest)
+    sum_at(alloc, scope, inside, size, rest)
 }
 
 fn ends_arguments(text: &[u8]) -> bool
@@ -176,12 +173,13 @@ fn ends_arguments(text: &[u8]) -> bool
 pub fn arguments_at<'a>(
     alloc: Global,
     scope: &[Known],
+    inside: bool,
     size: usize,
     text: &'a [u8],
 ) -> Result<(Items<Sum>, &'a [u8]), SmallError>
     requires size { size ≤ 1048576 }
     requires room { length scope.now ≤ 4096 }
-    ensures { Gives (λ x. (x.0, x.1.now)) result (arguments_at scope.now size text.now) }
+    ensures { Gives (λ x. (x.0, x.1.now)) result (arguments_at scope.now inside size text.now) }
 {
     let mut arguments = Items::new(alloc);
     let mut rest = text;
@@ -189,7 +187,7 @@ pub fn arguments_at<'a>(
         if ends_arguments(rest) {
             return Ok((arguments, rest));
         }
-        let (argument, after) = next_argument_at(alloc, scope, size, rest)?;
+        let (argument, after) = next_argument_at(alloc, scope, inside, size, rest)?;
         arguments.push(argument).map_err(|_| SmallError::Memory)?;
         rest = after;
     }

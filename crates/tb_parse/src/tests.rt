@@ -17,11 +17,93 @@ fn show_sum(alloc: Global, out: &mut Vec<u8>, sum: &Sum) -> Result<(), AllocErro
 fn show_atom(alloc: Global, out: &mut Vec<u8>, atom: &Atom) -> Result<(), AllocError> {
     match atom {
         Atom::Int(int) => show_number(alloc, out, int.value),
-        Atom::Variable(variable) => {
-            out.extend_from_slice(b"#")?;
-            show_number(alloc, out, variable.number)
+        Atom::Variable(variable) => show_variable(alloc, out, variable),
+        Atom::Deref(deref) => {
+            out.extend_from_slice(b"*")?;
+            show_variable(alloc, out, &deref.variable)
         }
     }
+}
+
+fn show_variable(alloc: Global, out: &mut Vec<u8>, variable: &Variable) -> Result<(), AllocError> {
+    out.extend_from_slice(b"#")?;
+    show_number(alloc, out, variable.number)
+}
+
+fn show_spot(alloc: Global, out: &mut Vec<u8>, spot: &Spot) -> Result<(), AllocError> {
+    match spot {
+        Spot::Variable(variable) => show_variable(alloc, out, variable),
+        Spot::Deref(deref) => {
+            out.extend_from_slice(b"*")?;
+            show_variable(alloc, out, &deref.variable)
+        }
+    }
+}
+
+fn kind_text(kind: RefKind) -> &'static [u8] {
+    match kind {
+        RefKind::Shared => b"&",
+        RefKind::Mut => b"&mut ",
+        RefKind::RawConst => b"&raw const ",
+        RefKind::RawMut => b"&raw mut ",
+    }
+}
+
+fn show_value(alloc: Global, out: &mut Vec<u8>, value: &Value) -> Result<(), AllocError> {
+    match value {
+        Value::Sum(sum) => show_sum(alloc, out, sum),
+        Value::Borrow(borrow) => {
+            out.extend_from_slice(kind_text(borrow.kind))?;
+            show_spot(alloc, out, &borrow.operand)
+        }
+        Value::Pointer(variable) => show_variable(alloc, out, variable),
+    }
+}
+
+fn show_right(alloc: Global, out: &mut Vec<u8>, right: &Right) -> Result<(), AllocError> {
+    match right {
+        Right::Plain(value) => show_value(alloc, out, value),
+        Right::Unsafe(block) => {
+            out.extend_from_slice(b"unsafe { ")?;
+            show_value(alloc, out, &block.value)?;
+            out.extend_from_slice(b" }")
+        }
+    }
+}
+
+fn show_assign(alloc: Global, out: &mut Vec<u8>, assign: &Assign) -> Result<(), AllocError> {
+    show_spot(alloc, out, &assign.target)?;
+    out.extend_from_slice(b" = ")?;
+    show_right(alloc, out, &assign.value)
+}
+
+/// The text of a print and its arguments, behind the name of the macro where that is `println`.
+fn show_print(alloc: Global, out: &mut Vec<u8>, print: &Print) -> Result<(), AllocError> {
+    if print.newline {
+        out.extend_from_slice(b"println ")?;
+    }
+    out.extend_from_slice(print.text.source.as_slice())?;
+    for argument in print.arguments.as_slice() {
+        out.extend_from_slice(b", ")?;
+        show_sum(alloc, out, argument)?;
+    }
+    Ok(())
+}
+
+fn show_inner(alloc: Global, out: &mut Vec<u8>, inner: &Inner) -> Result<(), AllocError> {
+    match inner {
+        Inner::Assign(assign) => show_assign(alloc, out, assign)?,
+        Inner::Print(print) => show_print(alloc, out, print)?,
+    }
+    out.extend_from_slice(b"; ")
+}
+
+fn show_unsafe(alloc: Global, out: &mut Vec<u8>, block: &UnsafeBlock) -> Result<(), AllocError> {
+    out.extend_from_slice(b"unsafe { ")?;
+    for inner in block.statements.as_slice() {
+        show_inner(alloc, out, inner)?;
+    }
+    out.extend_from_slice(b"}")
 }
 
 fn show_number(alloc: Global, out: &mut Vec<u8>, number: u32) -> Result<(), AllocError> {
@@ -40,21 +122,11 @@ fn show(alloc: Global, out: &mut Vec<u8>, statement: &Statement) -> Result<(), A
             })?;
             out.extend_from_slice(binding.name.bytes.as_slice())?;
             out.extend_from_slice(b" = ")?;
-            show_sum(alloc, out, &binding.value)?;
+            show_right(alloc, out, &binding.value)?;
         }
-        Statement::Assign(assign) => {
-            out.extend_from_slice(b"#")?;
-            show_number(alloc, out, assign.target.number)?;
-            out.extend_from_slice(b" = ")?;
-            show_sum(alloc, out, &assign.value)?;
-        }
-        Statement::Print(print) => {
-            out.extend_from_slice(print.text.source.as_slice())?;
-            for argument in print.arguments.as_slice() {
-                out.extend_from_slice(b", ")?;
-                show_sum(alloc, out, argument)?;
-            }
-        }
+        Statement::Assign(assign) => show_assign(alloc, out, assign)?,
+        Statement::Print(print) => show_print(alloc, out, print)?,
+        Statement::Unsafe(block) => show_unsafe(alloc, out, block)?,
     }
     out.extend_from_slice(b"; ")
 }
@@ -71,7 +143,7 @@ fn shown(rt: &impl Abort, alloc: Global, text: &[u8]) -> Result<Vec<u8>, SmallEr
 }
 
 /// Sources, and their statements.
-const READ: [(&[u8], &[u8]); 24] = [
+const READ: [(&[u8], &[u8]); 37] = [
     (b"fn main(){}", b""),
     (b" \n fn main() {\n}\n ", b""),
     (b"fn main() { print!(\"\"); }", b"; "),
@@ -153,6 +225,58 @@ const READ: [(&[u8], &[u8]); 24] = [
         b"fn main() { print!(\"{} {}\", 1, 2); let a = 3; }",
         b"{} {}, 1, 2; let a = 3; ",
     ),
+    (
+        b"fn main() { println!(\"a\"); print!(\"b\"); println!(\"{}\\n\", 1); let println = 2; }",
+        b"println a; b; println {}\\n, 1; let println = 2; ",
+    ),
+    (
+        b"fn main() { let mut x = 1; let r = &x; let m = &mut x; let c = &raw const x; let p = &raw mut x; }",
+        b"let mut x = 1; let r = &#0; let m = &mut #0; let c = &raw const #0; let p = &raw mut #0; ",
+    ),
+    (
+        b"fn main(){let mut x=1;let r=&x;let m=&mut x;*m=*r+1+*m;print!(\"{}{}\",*r,2+*m);}",
+        b"let mut x = 1; let r = &#0; let m = &mut #0; *#2 = *#1 + 1 + *#2; {}{}, *#1, 2 + *#2; ",
+    ),
+    (
+        b"fn main() { let x = 1; let r = & x; let s = &*r; let c = & raw const * s; }",
+        b"let x = 1; let r = &#0; let s = &*#1; let c = &raw const *#2; ",
+    ),
+    (
+        b"fn main() { let mut x = 1; let m = &mut x; let n = &mut*m; let p = &raw mut*n; let s = &*n; }",
+        b"let mut x = 1; let m = &mut #0; let n = &mut *#1; let p = &raw mut *#2; let s = &*#2; ",
+    ),
+    (
+        b"fn main() { let mut x = 1; let p = &raw mut x; let y = unsafe { *p + 1 }; unsafe { *p = *p + y; } }",
+        b"let mut x = 1; let p = &raw mut #0; let y = unsafe { *#1 + 1 }; unsafe { *#1 = *#1 + #2; }; ",
+    ),
+    (
+        b"fn main() { let x = 1; let c = &raw const x; let r = unsafe { & * c }; print!(\"{}\", *r); }",
+        b"let x = 1; let c = &raw const #0; let r = unsafe { &*#1 }; {}, *#2; ",
+    ),
+    (
+        b"fn main() { let mut x = 1; let p = &raw mut x; let m = unsafe { &mut *p }; *m = 2; unsafe { } }",
+        b"let mut x = 1; let p = &raw mut #0; let m = unsafe { &mut *#1 }; *#2 = 2; unsafe { }; ",
+    ),
+    (
+        b"fn main() { let x = 1; let y = 2; let mut c = &raw const x; let d = c; c = &raw const y; c = d; c = unsafe { c }; }",
+        b"let x = 1; let y = 2; let mut c = &raw const #0; let d = #2; #2 = &raw const #1; #2 = #3; #2 = unsafe { #2 }; ",
+    ),
+    (
+        b"fn main(){let mut x=1;let p=&raw mut x;unsafe{*p=unsafe{*p+1};x=2;print!(\"{}\",*p);println!(\"\");}}",
+        b"let mut x = 1; let p = &raw mut #0; unsafe { *#1 = unsafe { *#1 + 1 }; #0 = 2; {}, *#1; println ; }; ",
+    ),
+    (
+        b"fn main() { let mut raw = 1; let r = &raw; let s = &mut raw; let c = &raw const raw; let m = &raw mut raw; }",
+        b"let mut raw = 1; let r = &#0; let s = &mut #0; let c = &raw const #0; let m = &raw mut #0; ",
+    ),
+    (
+        b"fn main() { let raw = 1; let r = & raw; let t = unsafe { &raw }; let rawconst = &raw; let s = &*rawconst; }",
+        b"let raw = 1; let r = &#0; let t = unsafe { &#0 }; let rawconst = &#0; let s = &*#3; ",
+    ),
+    (
+        b"fn main() { let x = 1; let x = &x; let x = *x; let x = x + 1; }",
+        b"let x = 1; let x = &#0; let x = *#1; let x = #2 + 1; ",
+    ),
 ];
 
 #[test]
@@ -165,7 +289,7 @@ fn read(rt: HostRuntime) -> Result<(), Fail> {
 }
 
 /// Texts that have no tree.
-const REFUSED: [&[u8]; 64] = [
+const REFUSED: [&[u8]; 146] = [
     b"",
     b" \n",
     b"fn main() {",
@@ -180,7 +304,6 @@ const REFUSED: [&[u8]; 64] = [
     b"fn main() { // \n }",
     b"fn main() { print!(\"x\") }",
     b"fn main() { print(\"x\"); }",
-    b"fn main() { println!(\"x\"); }",
     b"fn main() { print!(\"x\", ); }",
     b"fn main() { print!(); }",
     b"fn main() { print!(\"x\");; }",
@@ -230,6 +353,89 @@ const REFUSED: [&[u8]; 64] = [
     b"fn main() { let x = 1i32; }",
     b"fn main() { let x = 1_0; }",
     b"fn main() { let mut x = 1; x += 1; }",
+    b"fn main() { let x = 1; let y = *x; }",
+    b"fn main() { let x = 1; *x = 2; }",
+    b"fn main() { let x = 1; let y = &*x; }",
+    b"fn main() { let x = 1; let c = &raw const x; let y = *c; }",
+    b"fn main() { let mut x = 1; let p = &raw mut x; *p = 2; }",
+    b"fn main() { let mut x = 1; let p = &raw mut x; print!(\"{}\", *p); }",
+    b"fn main() { let mut x = 1; let p = &raw mut x; let r = &*p; }",
+    b"fn main() { let mut x = 1; let p = &raw mut x; unsafe { } *p = 2; }",
+    b"fn main() { let mut x = 1; let p = &raw mut x; x = unsafe { *p } + *p; }",
+    b"fn main() { let x = 1; let m = &mut x; }",
+    b"fn main() { let x = 1; let p = &raw mut x; }",
+    b"fn main() { let x = 1; let r = &x; let m = &mut *r; }",
+    b"fn main() { let x = 1; let r = &x; let p = &raw mut *r; }",
+    b"fn main() { let x = 1; let c = &raw const x; let m = unsafe { &mut *c }; }",
+    b"fn main() { let x = 1; let r = &x; *r = 2; }",
+    b"fn main() { let x = 1; let c = &raw const x; unsafe { *c = 2; } }",
+    b"fn main() { let x = 1; let mut c = &raw const x; c = &x; }",
+    b"fn main() { let mut x = 1; let mut c = &raw const x; c = &raw mut x; }",
+    b"fn main() { let mut x = 1; let mut p = &raw mut x; p = 1; }",
+    b"fn main() { let mut x = 1; let p = &raw mut x; x = p; }",
+    b"fn main() { let mut x = 1; let m = &mut x; *m = &x; }",
+    b"fn main() { let x = 1; let y = 2; let c = &raw const x; c = &raw const y; }",
+    b"fn main() { let x = 1; let mut r = &x; r = &x; }",
+    b"fn main() { let x = 1; let r = &x; let s = r; }",
+    b"fn main() { let x = 1; let r = &x; let y = r + 1; }",
+    b"fn main() { let x = 1; let r = &x; let y = 1 + r; }",
+    b"fn main() { let x = 1; let r = &x; print!(\"{}\", r); }",
+    b"fn main() { let x = 1; let c = &raw const x; let y = c + 1; }",
+    b"fn main() { let x = 1; let c = &raw const x; print!(\"{}\", c); }",
+    b"fn main() { let x = 1; let r = &x; let s = &r; }",
+    b"fn main() { let x = 1; let c = &raw const x; let d = &c; }",
+    b"fn main() { let x = 1; let r = &x; let y = **r; }",
+    b"fn main() { let x = 1; let y = *&x; }",
+    b"fn main() { let x = 1; let r = &1; }",
+    b"fn main() { let x = 1; let r = &x + 1; }",
+    b"fn main() { let x = 1; let r = &(x); }",
+    b"fn main() { let x = 1; let r = &&x; }",
+    b"fn main() { let x = 1; let r = & &x; }",
+    b"fn main() { let x = 1; let r = &raw x; }",
+    b"fn main() { let raw = 1; let r = &raw raw; }",
+    b"fn main() { let x = 1; let r = &const x; }",
+    b"fn main() { let mut x = 1; let r = &mut mut x; }",
+    b"fn main() { let x = 1; let c = &raw const; }",
+    b"fn main() { let x = 1; let r = &rawconst x; }",
+    b"fn main() { let x = 1; let r = &raw const const x; }",
+    b"fn main() { let raw = 1; let r = &raw const; }",
+    b"fn main() { let raw = 1; let r = &raw mut; }",
+    b"fn main() { let mut x = 1; x *= 1; }",
+    b"fn main() { let mut x = 1; x &= 1; }",
+    b"fn main() { let mut x = 1; let m = &mut x; *m *= 1; }",
+    b"fn main() { let mut x = 1; let m = &mut x; *m += 1; }",
+    b"fn main() { let mut x = 1; let m = &mut x; *m == 1; }",
+    b"fn main() { let mut x = 1; x ==1; }",
+    b"fn main() { let x = 1 &1; }",
+    b"fn main() { let x = 1; let r =&= x; }",
+    b"fn main() { unsafe { unsafe { } } }",
+    b"fn main() { unsafe { let x = 1; } }",
+    b"fn main() { let x = unsafe { unsafe { 1 } }; }",
+    b"fn main() { let x = unsafe { 1; }; }",
+    b"fn main() { let x = unsafe { }; }",
+    b"fn main() { unsafe { 1 } }",
+    b"fn main() { unsafe { print!(\"\") } }",
+    b"fn main() { unsafe { }",
+    b"fn main() { unsafe } }",
+    b"fn main() { unsafe; }",
+    b"fn main() { let unsafe = 1; }",
+    b"fn main() { let x = unsafe 1; }",
+    b"fn main() { let x = unsafe { 1 } + 1; }",
+    b"fn main() { let x = 1 + unsafe { 1 }; }",
+    b"fn main() { print!(\"{}\", unsafe { 1 }); }",
+    b"fn main() { let x = 1; let r = &unsafe { x }; }",
+    b"fn main() { let mut x = 1; unsafe { x } = 2; }",
+    b"fn main() { unsafe { x = 1; } }",
+    b"fn main() { unsafe { let x = 1; } x = 1; }",
+    b"fn main() { printline!(\"\"); }",
+    b"fn main() { println !=(\"\"); }",
+    b"fn main() { eprint!(\"\"); }",
+    b"fn main() { print ln!(\"\"); }",
+    b"fn main() { *x = 1; }",
+    b"fn main() { &x = 1; }",
+    b"fn main() { let *x = 1; }",
+    b"fn main() { let &x = 1; }",
+    b"fn main() { let x: i32 = 1; }",
 ];
 
 #[test]
@@ -256,7 +462,7 @@ fn repeated(
 }
 
 /// Front, piece, how often it is within the limits, and back: one more is refused.
-const LIMITS: [(&[u8], &[u8], u32, &[u8]); 6] = [
+const LIMITS: [(&[u8], &[u8], u32, &[u8]); 9] = [
     (b"fn main() { let a = 1", b"+1", 63, b"; }"),
     (
         b"fn main() { let a = 1; print!(\"{}\", a",
@@ -278,6 +484,24 @@ const LIMITS: [(&[u8], &[u8], u32, &[u8]); 6] = [
         1363,
         b"let c = a + 1; }",
     ),
+    (
+        b"fn main() { let mut a = 1; let r = &mut a; ",
+        b"*r = *r; ",
+        1364,
+        b"}",
+    ),
+    (
+        b"fn main() { let mut a = 1; let mut p = &raw mut a; unsafe { ",
+        b"p = &raw mut *p; ",
+        2045,
+        b"p = p; }}",
+    ),
+    (
+        b"fn main() { let a = 1; let r = &a; print!(\"{}{}\", *r + *r, *r); ",
+        b"let b = &a; ",
+        2042,
+        b"let b = 1; }",
+    ),
 ];
 
 #[test]
@@ -289,6 +513,14 @@ fn limits(rt: HostRuntime) -> Result<(), Fail> {
         assert!(rt; matches!(shown(&rt, rt.alloc(), &more), Err(SmallError::NotBuilt)));
     }
     Ok(())
+}
+
+/// A mention of a variable.
+fn variable(lo: u32, hi: u32, number: u32) -> Variable {
+    Variable {
+        span: Span { lo, hi },
+        number,
+    }
 }
 
 #[test]
@@ -305,39 +537,34 @@ fn spans(rt: HostRuntime) -> Result<(), Fail> {
     if let Statement::Let(binding) = &statements[0] {
         assert_eq!(rt; binding.span, Span { lo: 16, hi: 35 });
         assert_eq!(rt; binding.name.span, Span { lo: 24, hi: 26 });
-        assert_eq!(rt;
-            binding.value.first,
-            Atom::Int(Int {
-                span: Span { lo: 29, hi: 30 },
-                value: 1
-            })
-        );
-        assert_eq!(rt; binding.value.rest.len(), 1);
-        assert_eq!(rt;
-            binding.value.rest.as_slice()[0],
-            Atom::Int(Int {
-                span: Span { lo: 31, hi: 33 },
-                value: 23
-            })
-        );
+        assert_eq!(rt; binding.ty, Ty::Int32);
+        assert!(rt; matches!(&binding.value, Right::Plain(Value::Sum(_))));
+        if let Right::Plain(Value::Sum(sum)) = &binding.value {
+            assert_eq!(rt;
+                sum.first,
+                Atom::Int(Int {
+                    span: Span { lo: 29, hi: 30 },
+                    value: 1
+                })
+            );
+            assert_eq!(rt; sum.rest.len(), 1);
+            assert_eq!(rt;
+                sum.rest.as_slice()[0],
+                Atom::Int(Int {
+                    span: Span { lo: 31, hi: 33 },
+                    value: 23
+                })
+            );
+        }
     }
     assert!(rt; matches!(&statements[1], Statement::Assign(_)));
     if let Statement::Assign(assign) = &statements[1] {
         assert_eq!(rt; assign.span, Span { lo: 36, hi: 45 });
-        assert_eq!(rt;
-            assign.target,
-            Variable {
-                span: Span { lo: 36, hi: 38 },
-                number: 0
-            }
-        );
-        assert_eq!(rt;
-            assign.value.first,
-            Atom::Variable(Variable {
-                span: Span { lo: 41, hi: 43 },
-                number: 0
-            })
-        );
+        assert_eq!(rt; assign.target, Spot::Variable(variable(36, 38, 0)));
+        assert!(rt; matches!(&assign.value, Right::Plain(Value::Sum(_))));
+        if let Right::Plain(Value::Sum(sum)) = &assign.value {
+            assert_eq!(rt; sum.first, Atom::Variable(variable(41, 43, 0)));
+        }
     }
     assert!(rt; matches!(&statements[2], Statement::Print(_)));
     if let Statement::Print(print) = &statements[2] {
@@ -345,6 +572,103 @@ fn spans(rt: HostRuntime) -> Result<(), Fail> {
         assert_eq!(rt; print.call, Span { lo: 46, hi: 68 });
         assert_eq!(rt; print.text.span, Span { lo: 55, hi: 61 });
         assert_eq!(rt; print.arguments.len(), 1);
+    }
+    Ok(())
+}
+
+/// A source with each form that has a pointer.
+const POINTERS: &[u8] =
+    b"fn main(){let mut x=1;let m = & mut x ;* m=* m+1; unsafe { x = unsafe { *m } ; print! ( \"\" ) ; } let c = &raw const*m;}";
+
+#[test]
+fn pointer_spans(rt: HostRuntime) -> Result<(), Fail> {
+    let tree = small(rt.alloc(), POINTERS)?;
+    let statements = tree.body.statements.as_slice();
+    assert_eq!(rt; statements.len(), 5);
+    assert!(rt; matches!(&statements[1], Statement::Let(_)));
+    if let Statement::Let(binding) = &statements[1] {
+        assert_eq!(rt; binding.span, Span { lo: 22, hi: 39 });
+        assert_eq!(rt; binding.ty, Ty::Pointer(RefKind::Mut));
+        assert!(rt; matches!(&binding.value, Right::Plain(Value::Borrow(_))));
+        if let Right::Plain(Value::Borrow(borrow)) = &binding.value {
+            assert_eq!(rt; borrow.span, Span { lo: 30, hi: 37 });
+            assert_eq!(rt; borrow.kind, RefKind::Mut);
+            assert_eq!(rt; borrow.operand, Spot::Variable(variable(36, 37, 0)));
+        }
+    }
+    assert!(rt; matches!(&statements[2], Statement::Assign(_)));
+    if let Statement::Assign(assign) = &statements[2] {
+        assert_eq!(rt; assign.span, Span { lo: 39, hi: 49 });
+        assert_eq!(rt;
+            assign.target,
+            Spot::Deref(Deref {
+                span: Span { lo: 39, hi: 42 },
+                variable: variable(41, 42, 1)
+            })
+        );
+        assert!(rt; matches!(&assign.value, Right::Plain(Value::Sum(_))));
+        if let Right::Plain(Value::Sum(sum)) = &assign.value {
+            assert_eq!(rt;
+                sum.first,
+                Atom::Deref(Deref {
+                    span: Span { lo: 43, hi: 46 },
+                    variable: variable(45, 46, 1)
+                })
+            );
+        }
+    }
+    assert!(rt; matches!(&statements[4], Statement::Let(_)));
+    if let Statement::Let(binding) = &statements[4] {
+        assert_eq!(rt; binding.ty, Ty::Pointer(RefKind::RawConst));
+        assert!(rt; matches!(&binding.value, Right::Plain(Value::Borrow(_))));
+        if let Right::Plain(Value::Borrow(borrow)) = &binding.value {
+            assert_eq!(rt; borrow.span, Span { lo: 105, hi: 117 });
+            assert_eq!(rt;
+                borrow.operand,
+                Spot::Deref(Deref {
+                    span: Span { lo: 115, hi: 117 },
+                    variable: variable(116, 117, 1)
+                })
+            );
+        }
+    }
+    Ok(())
+}
+
+#[test]
+fn unsafe_spans(rt: HostRuntime) -> Result<(), Fail> {
+    let tree = small(rt.alloc(), POINTERS)?;
+    let statements = tree.body.statements.as_slice();
+    assert_eq!(rt; statements.len(), 5);
+    assert!(rt; matches!(&statements[3], Statement::Unsafe(_)));
+    if let Statement::Unsafe(block) = &statements[3] {
+        assert_eq!(rt; block.span, Span { lo: 50, hi: 96 });
+        let inners = block.statements.as_slice();
+        assert_eq!(rt; inners.len(), 2);
+        assert!(rt; matches!(&inners[0], Inner::Assign(_)));
+        if let Inner::Assign(assign) = &inners[0] {
+            assert_eq!(rt; assign.span, Span { lo: 59, hi: 78 });
+            assert_eq!(rt; assign.target, Spot::Variable(variable(59, 60, 0)));
+            assert!(rt; matches!(&assign.value, Right::Unsafe(_)));
+            if let Right::Unsafe(right) = &assign.value {
+                assert_eq!(rt; right.span, Span { lo: 63, hi: 76 });
+                assert!(rt; matches!(&right.value, Value::Sum(_)));
+                if let Value::Sum(sum) = &right.value {
+                    assert_eq!(rt;
+                        sum.first,
+                        Atom::Deref(Deref {
+                            span: Span { lo: 72, hi: 74 },
+                            variable: variable(73, 74, 1)
+                        })
+                    );
+                }
+            }
+        }
+        assert!(rt; matches!(&inners[1], Inner::Print(_)));
+        if let Inner::Print(print) = &inners[1] {
+            assert_eq!(rt; print.span, Span { lo: 79, hi: 94 });
+            assert_eq!(rt; print.call, Span { lo: 79, hi: 92 });
+        }
     }
     Ok(())
 }

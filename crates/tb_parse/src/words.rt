@@ -4,8 +4,8 @@ ghost use Rattle.std.specs.Prelude.{◌≡◌, ◌-◌, ◌≤◌, length};
 ghost use Rattle.std.specs.Char.{is_ascii_digit};
 ghost use Rattle.std.specs.List.{list_all, list_any};
 ghost use Rattle.std.specs.Str.{bytes_eq};
-ghost use Rattle.tb_parse.specs.Words.{is_space, is_word_byte, after_space, begins_word, begins_digit, is_apart, is_keyword, is_name, is_number};
-ghost use Rattle.tb_parse.specs.Reading.{Gives, strip, eat, word_of, after_word, has_word, begins_with, has_byte, span_of, name_at};
+ghost use Rattle.tb_parse.specs.Words.{is_space, is_word_byte, after_space, begins_with, begins_word, begins_digit, is_lengthened, is_apart, is_keyword, is_name, is_number};
+ghost use Rattle.tb_parse.specs.Reading.{Gives, strip, eat, word_of, after_word, has_word, has_byte, span_of, name_at};
 
 use crate::error::SmallError;
 use tb_perm::Span;
@@ -82,10 +82,31 @@ fn begins_digit(text: &[u8]) -> bool
     }
 }
 
+/// Whether this byte is at the front.
+pub fn begins_with(wanted: u8, text: &[u8]) -> bool
+    ensures { result ≡ begins_with wanted text.now }
+{
+    match text {
+        [] => false,
+        [byte, ..] => *byte == wanted,
+    }
+}
+
+/// Whether the rest makes a sign a longer one.
+fn is_lengthened(word: &[u8], rest: &[u8]) -> bool
+    ensures { result ≡ is_lengthened word.now rest.now }
+{
+    match word {
+        [b'!' | b'*' | b'+' | b'=', ..] => begins_with(b'=', rest),
+        [b'&', ..] => begins_with(b'=', rest) || begins_with(b'&', rest),
+        _ => false,
+    }
+}
+
 fn is_apart(word: &[u8], rest: &[u8]) -> bool
     ensures { result ≡ is_apart word.now rest.now }
 {
-    !(begins_word(word) && begins_word(rest))
+    !(begins_word(word) && begins_word(rest)) && !is_lengthened(word, rest)
 }
 
 /// What follows the word at the front of the text.
@@ -142,16 +163,6 @@ pub fn has_word(word: &[u8], text: &[u8]) -> bool
 {
     let (next, _) = next_word(text);
     next == word
-}
-
-/// Whether this byte is at the front.
-pub fn begins_with(wanted: u8, text: &[u8]) -> bool
-    ensures { result ≡ begins_with wanted text.now }
-{
-    match text {
-        [] => false,
-        [byte, ..] => *byte == wanted,
-    }
 }
 
 /// Whether this byte comes next.

@@ -4,16 +4,17 @@ use Rattle.tb_base.specs.Growth.{Grew, GrewByPrefix}
 use Rattle.tb_base.proofs.GrowthLaws.{GrewByPrefix-stays, GrewByPrefix-whole, Grew-stays}
 use Rattle.tb_base.specs.Outside.{FilesTold, bytes_under}
 use Rattle.tb_eval.specs.Run.{whole_run}
-use Rattle.tb_lower.specs.Lowering.{Realises}
 use Rattle.tb_mir.specs.declared.mir.Mir.{Mir}
 use Rattle.tb_parse.specs.Grammar.{IsSmall}
 use Rattle.tb_top.specs.declared.halt.Halt.{Halt}
 use Rattle.tb_top.specs.declared.halt.Halt.TheVariants as halt
 use Rattle.tb_top.specs.Output.{Output, halted, ran, IsSource, IsOutput, Usage, TooLong, NotBuilt, Ran, Tells, EachOutput}
+use Rattle.tb_top.specs.Program.{IsProgram}
 use Rattle.tb_top.specs.Report.{line_of, status_of}
 use Rattle.tb_top.specs.Stages.{Seen, NothingOut, HasRead, HasLowered, RunsTo, CutShort, RanOutAfter, RanOutBefore, TouchesNothing, ReadTooLong, HasNoTree, FailedToRead, ComesTo}
 use Rattle.tb_top.specs.Told.{Finds}
 use Rattle.tb_top.specs.Words.{file_of}
+use Rattle.tb_top.proofs.Programs.{one_program}
 
 -- two equations of one option
 same_some : {A : Type 0} (o : Option A) (x y : A) → o ≡ Some x → o ≡ Some y → x ≡ y
@@ -68,7 +69,7 @@ usage_err : (words : List (List ℕ)) (told : Option FilesTold) (output : Output
 usage_err words told output none (Usage e) = refl
 usage_err words told output none (TooLong source is size) = absurd (not_both words is.name is.named none)
 usage_err words told output none (NotBuilt source is size no_tree) = absurd (not_both words is.name is.named none)
-usage_err words told output none (Ran source is size tree related mir realised) = absurd (not_both words is.name is.named none)
+usage_err words told output none (Ran source is size tree related mir program) = absurd (not_both words is.name is.named none)
 
 pub usage_ended : (words : List (List ℕ)) (old new : Seen) → TouchesNothing words old new → Ended words old new halt.Usage
 usage_ended words old new h = record {
@@ -84,7 +85,7 @@ too_long_err words old new output h (Usage e) = absurd (not_both words h.read.na
 too_long_err words old new output h (TooLong source is size) = refl
 too_long_err words old new output h (NotBuilt source is size no_tree) =
     absurd (let e = same_source words old new h.source source h.read is in let l = h.size in let m = ap length e in omega arith)
-too_long_err words old new output h (Ran source is size tree related mir realised) =
+too_long_err words old new output h (Ran source is size tree related mir program) =
     absurd (let e = same_source words old new h.source source h.read is in let l = h.size in let m = ap length e in omega arith)
 
 pub too_long_ended : (words : List (List ℕ)) (old new : Seen) → ReadTooLong words old new → Ended words old new halt.TooLong
@@ -102,7 +103,7 @@ no_tree_err words old new output h (Usage e) = absurd (not_both words h.read.nam
 no_tree_err words old new output h (TooLong source is size) =
     absurd (let e = same_source words old new h.source source h.read is in let l = h.size in let m = ap length e in omega arith)
 no_tree_err words old new output h (NotBuilt source is size no_tree) = refl
-no_tree_err words old new output h (Ran source is size tree related mir realised) =
+no_tree_err words old new output h (Ran source is size tree related mir program) =
     absurd (h.unrelated tree (subst (λ s. IsSmall s tree) (same_source words old new h.source source h.read is) related))
 
 pub no_tree_ended : (words : List (List ℕ)) (old new : Seen) → HasNoTree words old new → Ended words old new halt.NotBuilt
@@ -130,11 +131,10 @@ lowered_out words old new source mir output h (TooLong other is size) =
     absurd (let e = same_source words old new source other h.read is in let l = h.size in let m = ap length e in omega arith)
 lowered_out words old new source mir output h (NotBuilt other is size no_tree) =
     absurd (no_tree h.tree (subst (λ s. IsSmall s h.tree) (sym (same_source words old new source other h.read is)) h.related))
-lowered_out words old new source mir output h (Ran other is size tree related lowered realised) =
+lowered_out words old new source mir output h (Ran other is size tree related lowered program) =
     let text : other ≡ source = same_source words old new source other h.read is in
     let trees : tree ≡ h.tree = h.only tree (subst (λ s. IsSmall s tree) text related) in
-    let one : Realises h.tree lowered = subst (λ t. Realises t lowered) trees realised in
-    let mirs : lowered ≡ mir = one ∙ sym h.realised in
+    let mirs : lowered ≡ mir = one_program h.tree lowered mir (subst (λ t. IsProgram t lowered) trees program) h.program in
     ap (λ s. ran s (whole_run lowered)) text ∙ ap (λ m. ran source (whole_run m)) mirs
 
 -- so a front of what it prints is a front of the output's
@@ -172,7 +172,7 @@ run_ended words old new why h = record {
   err = inl (λ output is. ap (λ (o : Output). o.err) (lowered_out words old new h.source h.mir output h.lowered is) ∙ h.text);
   answer = λ no tells calm quiet. record {
     output = ran h.source (whole_run h.mir);
-    is = Ran h.source (told_source words old new h.source h.lowered.read tells) h.lowered.size h.lowered.tree h.lowered.related h.mir h.lowered.realised;
+    is = Ran h.source (told_source words old new h.source h.lowered.read tells) h.lowered.size h.lowered.tree h.lowered.related h.mir h.lowered.program;
     status = sym h.answer;
     out = h.put;
     err = sym h.text;

@@ -1,3 +1,4 @@
+pub mod Programs
 pub mod Ends
 pub mod ReportLaws
 pub mod StageLaws

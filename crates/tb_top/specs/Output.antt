@@ -6,12 +6,12 @@ use Rattle.tb_diag.specs.Report.{report_of}
 use Rattle.tb_eval.specs.Run.{Run, whole_run}
 use Rattle.tb_eval.specs.declared.outcome.Outcome.{Outcome}
 use Rattle.tb_eval.specs.declared.outcome.Outcome.TheVariants.{Finished, Undefined, Panic, StepLimit, WriteFault, Memory}
-use Rattle.tb_lower.specs.Lowering.{Realises}
 use Rattle.tb_mir.specs.declared.mir.Mir.{Mir}
 use Rattle.tb_parse.specs.declared.tree.SmallTree.{SmallTree}
 use Rattle.tb_parse.specs.Grammar.{IsSmall}
 use Rattle.tb_top.specs.declared.halt.Halt.{Halt}
 use Rattle.tb_top.specs.declared.halt.Halt.TheVariants as halt
+use Rattle.tb_top.specs.Program.{IsProgram}
 use Rattle.tb_top.specs.Report.{line_of, status_of}
 use Rattle.tb_top.specs.Words.{file_of}
 
@@ -55,7 +55,7 @@ pub data IsOutput (words : List (List ℕ)) (told : Option FilesTold) : Output �
   Usage : file_of words ≡ None → IsOutput words told (halted halt.Usage)
   TooLong : (source : List ℕ) → IsSource words told source → longest < length source → IsOutput words told (halted halt.TooLong)
   NotBuilt : (source : List ℕ) → IsSource words told source → length source ≤ longest → ((tree : SmallTree) → IsSmall source tree → ⊥) → IsOutput words told (halted halt.NotBuilt)
-  Ran : (source : List ℕ) → IsSource words told source → length source ≤ longest → (tree : SmallTree) → IsSmall source tree → (mir : Mir) → Realises tree mir → IsOutput words told (ran source (whole_run mir))
+  Ran : (source : List ℕ) → IsSource words told source → length source ≤ longest → (tree : SmallTree) → IsSmall source tree → (mir : Mir) → IsProgram tree mir → IsOutput words told (ran source (whole_run mir))
 
 -- the words name no file, or the files tell what they hold
 abbrev pub Tells : List (List ℕ) → Option FilesTold → Type 0

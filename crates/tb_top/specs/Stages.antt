@@ -4,13 +4,13 @@ use Rattle.tb_base.specs.Growth.{Grew, GrewByPrefix, Stays}
 use Rattle.tb_base.specs.Outside.{FilesTold}
 use Rattle.tb_diag.specs.Report.{report_of}
 use Rattle.tb_eval.specs.Run.{whole_run}
-use Rattle.tb_lower.specs.Lowering.{Realises}
 use Rattle.tb_mir.specs.declared.mir.Mir.{Mir}
 use Rattle.tb_parse.specs.declared.tree.SmallTree.{SmallTree}
 use Rattle.tb_parse.specs.Grammar.{IsSmall}
 use Rattle.tb_top.specs.declared.halt.Halt.{Halt}
 use Rattle.tb_top.specs.declared.halt.Halt.TheVariants as halt
 use Rattle.tb_top.specs.Output.{longest, status_of_end}
+use Rattle.tb_top.specs.Program.{IsProgram}
 use Rattle.tb_top.specs.Told.{AskedNothing, AskedOnce, Finds}
 use Rattle.tb_top.specs.Words.{file_of}
 
@@ -45,7 +45,7 @@ pub record HasLowered (words : List (List ℕ)) (old new : Seen) (source : List 
   pub tree : SmallTree
   pub related : IsSmall source tree
   pub only : (other : SmallTree) → IsSmall source other → other ≡ tree
-  pub realised : Realises tree mir
+  pub program : IsProgram tree mir
 
 -- it ran to an end with this status and this report, and what it printed was put out whole
 pub record RunsTo (words : List (List ℕ)) (old new : Seen) (status : ℕ) (report : List ℕ) : Type 0 where

@@ -110,6 +110,17 @@ impl From<tb_lower::Memory> for Halt {
     }
 }
 
+impl From<tb_retag::Memory> for Halt {
+    ghost use Rattle.std.specs.Prelude.{◌≡◌};
+    ghost use Rattle.tb_top.specs.declared.halt.Halt.TheVariants.{Memory};
+
+    ghost from_gives = { λ _ why. why ≡ Memory };
+
+    fn from(_: tb_retag::Memory) -> Halt {
+        Halt::Memory
+    }
+}
+
 impl From<tb_run::Memory> for Halt {
     ghost use Rattle.std.specs.Prelude.{◌≡◌};
     ghost use Rattle.tb_top.specs.declared.halt.Halt.TheVariants.{Memory};

@@ -4,12 +4,16 @@
 
 mod call;
 mod halt;
+mod laws;
 mod read;
 mod report;
 mod run;
 mod words;
 
 pub use call::{Status, tbmiri};
+pub use laws::law_one_mir;
 
+#[cfg(test)]
+mod references;
 #[cfg(test)]
 mod tests;

@@ -1,7 +1,9 @@
 //! A call up to its report: reads the source that the words name, lowers it and runs it.
-ghost use Rattle.std.specs.Prelude.{◌≡◌, ◌≢◌, ◌<◌, ◌≤◌, ◌-◌, ◌^◌, length, map, string_bytes};
+ghost use Rattle.std.specs.Prelude.{◌≡◌, ◌≢◌, ◌<◌, ◌≤◌, ◌-◌, ◌^◌, [], length, map, string_bytes, IfOk, IfErr};
 ghost use Rattle.tb_eval.specs.Run.{whole_run};
+ghost use Rattle.tb_parse.specs.Grammar.{AreStatements, IsWithinLimits};
 ghost use Rattle.tb_top.specs.Conclusion.{Concludes, RunEnds};
+ghost use Rattle.tb_top.specs.Program.{IsProgram};
 ghost use Rattle.tb_top.specs.Stages.{ComesTo};
 
 use crate::halt::Halt;
@@ -16,10 +18,23 @@ use tb_diag::report;
 use tb_eval::Outcome;
 use tb_lower::lower_source;
 use tb_mir::Mir;
-use tb_parse::small;
+use tb_parse::{SmallTree, small};
 use tb_perm::Steps;
 use tb_plain::PlainTree;
+use tb_retag::place;
 use tb_run::Machine;
+
+/// The program that runs for a tree: what it is lowered to, with its retags at their places.
+fn program_of(alloc: Global, tree: &SmallTree) -> Result<Mir, Halt>
+    requires scopes { AreStatements [] tree.now.body.statements }
+    requires limits { IsWithinLimits tree.now }
+    ensures program { IfOk result (λ mir. IsProgram tree.now mir) }
+    ensures memory { IfErr result (λ why. why ≡ Halt.Memory) }
+{
+    let mut mir = lower_source(alloc, tree)?;
+    place(alloc, &mut mir)?;
+    Ok(mir)
+}
 
 /// Reports the end of a run that does not finish.
 fn conclude(alloc: Global, source: &[u8], end: Outcome) -> Result<(), Halt>
@@ -94,6 +109,6 @@ pub fn run<F: Files, O: Sink>(
     let source = read_file(alloc, files, name)?;
     let text = source.as_slice();
     let tree = small(alloc, text)?;
-    let mir = lower_source(alloc, &tree)?;
+    let mir = program_of(alloc, &tree)?;
     run_mir(alloc, text, &mir, out)
 }

@@ -5,7 +5,7 @@ use tb_base::{MemFiles, MemSink, MemSource};
 
 const USAGE: &str = "usage: tbmiri FILE\n";
 
-const NOT_BUILT: &str = "refused U1: not built yet at 1:1-1:1\n";
+pub const NOT_BUILT: &str = "refused U1: not built yet at 1:1-1:1\n";
 
 const TOO_LONG: &str = "refused S2: source too long\n";
 
@@ -18,14 +18,14 @@ const TWO: &str = "fn main() { print!(\"ab\"); print!(\"c\\n\"); }";
 
 /// How many bytes one put takes, and the one call of each object that fails; 0 is none.
 #[derive(Clone, Copy, Debug)]
-struct Plan {
+pub struct Plan {
     most: usize,
     files: u64,
     out: u64,
     err: u64,
 }
 
-const CALM: Plan = Plan {
+pub const CALM: Plan = Plan {
     most: 4096,
     files: 0,
     out: 0,
@@ -34,16 +34,16 @@ const CALM: Plan = Plan {
 
 /// The objects of a call after it, and its status.
 #[derive(Drop)]
-struct Done {
-    status: Status,
+pub struct Done {
+    pub status: Status,
     files: MemFiles,
     input: MemSource,
-    out: MemSink,
-    err: MemSink,
+    pub out: MemSink,
+    pub err: MemSink,
 }
 
 /// Calls with these words, where the files `f` and `-` have this source.
-fn call(alloc: Global, words: &[&str], source: &[u8], plan: Plan) -> Result<Done, Fail> {
+pub fn call(alloc: Global, words: &[&str], source: &[u8], plan: Plan) -> Result<Done, Fail> {
     let mut list = Vec::new(alloc);
     for word in words {
         list.push(String::from_str(alloc, word)?)?;

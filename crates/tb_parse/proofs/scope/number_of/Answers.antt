@@ -10,7 +10,7 @@ returns-then-eq c =
     let is_named : Binding → Bool = λ known. bytes_eq known.name c.args.name.now in
     let same : is_named (get_or c.args.scope.now (c.loop-number.number - 1) c.index-scope-number.result) ≡ true =
     ap is_named (sym c.index-scope-number.is ∙ sym c.known.view_is) ∙ ap (λ n. bytes_eq n c.args.name.now) (sym c.as_slice.ensures) ∙ sym c.eq.ensures ∙ c.if-eq.true in
-    sym c.loop-number.invariant ∙ step ∙ rw same refl
+    sym (sym c.loop-number.invariant ∙ step ∙ rw same refl)
 
 pub loop-number-preserved : goal.loop-number-preserved
 loop-number-preserved c =

@@ -4,5 +4,5 @@ use Rattle.tb_parse.proofs.sums.arguments_at.Given as goal
 
 abbrev pub invariant-loop : goal.invariant-loop
 invariant-loop l =
-    many_at ends_arguments (λ _. next_argument_at l.scope l.size) with_last (length l.text - l.counter) l.arguments l.rest
-    ≡ arguments_at l.scope l.size l.text
+    many_at ends_arguments (λ _. next_argument_at l.scope l.inside l.size) with_last (length l.text - l.counter) l.arguments l.rest
+    ≡ arguments_at l.scope l.inside l.size l.text

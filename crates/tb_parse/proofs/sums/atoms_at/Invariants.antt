@@ -4,5 +4,5 @@ use Rattle.tb_parse.proofs.sums.atoms_at.Given as goal
 
 abbrev pub invariant-loop : goal.invariant-loop
 invariant-loop l =
-    many_at ends_sum (λ _. next_atom_at l.scope l.size) with_last (63 - l.counter) l.atoms l.rest
-    ≡ atoms_at l.scope l.size l.text
+    many_at ends_sum (λ _. next_atom_at l.scope l.inside l.size) with_last (63 - l.counter) l.atoms l.rest
+    ≡ atoms_at l.scope l.inside l.size l.text

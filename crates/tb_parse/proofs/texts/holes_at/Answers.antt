@@ -1,6 +1,7 @@
 use Rattle.std.proofs.Common.{sym, ◌∙◌, ◌+◌, arith}
 use Rattle.std.proofs.lemmas.Result.{err_from_is_err_and}
-use Rattle.tb_parse.specs.Reading.{begins_with, piece_at, holes_at}
+use Rattle.tb_parse.specs.Words.{begins_with}
+use Rattle.tb_parse.specs.Reading.{piece_at, holes_at}
 use Rattle.tb_parse.proofs.Many.{fails, goes_on}
 use Rattle.tb_parse.proofs.texts.holes_at.Goals as goal
 

@@ -1,5 +1,6 @@
 use Rattle.std.proofs.Common.{◌≡◌, ◌≤◌, ◌+◌, ◌-◌, length}
-use Rattle.tb_parse.specs.Reading.{begins_with, piece_at, holes_at, many_at}
+use Rattle.tb_parse.specs.Words.{begins_with}
+use Rattle.tb_parse.specs.Reading.{piece_at, holes_at, many_at}
 use Rattle.tb_parse.proofs.texts.holes_at.Given as goal
 
 abbrev pub invariant-loop : goal.invariant-loop

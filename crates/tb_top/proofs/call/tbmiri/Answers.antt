@@ -13,7 +13,7 @@ returns-in-Ok-clause-answers g c =
     let err = g.E.Sink.bytes c.args.err.now in
     λ no tells calm out quiet. (
       ran run.source (whole_run run.mir),
-      Ran run.source (told_source _ _ _ run.source run.lowered.read tells) run.lowered.size run.lowered.tree run.lowered.related run.mir run.lowered.realised,
+      Ran run.source (told_source _ _ _ run.source run.lowered.read tells) run.lowered.size run.lowered.tree run.lowered.related run.mir run.lowered.program,
       (sym run.answer, run.put, subst (λ text. Grew err err text) (sym run.text) (Grew-start err)),
     )
 

@@ -27,6 +27,6 @@ returns g c =
       tree = c.in_ok-tree.tree;
       related = c.in_ok-tree.ensures.tree;
       only = c.in_ok-tree.ensures.only;
-      realised = c.in_ok-mir.ensures;
+      program = c.in_ok-mir.ensures.program;
     })
     c.run_mir.ensures
