@@ -1,0 +1,12 @@
+pub mod Reading
+pub mod State
+pub mod Marks
+pub mod Leaves
+pub mod Lists
+pub mod Paths
+pub mod Types
+pub mod Written
+pub mod Notes
+pub mod Repeats
+pub mod Attributes
+pub mod Items
