@@ -2,7 +2,7 @@
 use Rattle.std.proofs.Common.{◌≡◌, ◌≢◌, ◌⊎◌, inl, inr, ℕ, ◌+◌, ◌≤◌, true, false, ◌==◌, List, [], ◌∷◌, ◌++◌, length, length-append, Option, Some, None, Result, Ok, Err, refl, ap, sym, subst, ◌∙◌, arith, ne_eqb, append_assoc, append-nil}
 use Rattle.std.specs.Char.{is_ascii_digit}
 use Rattle.tb_perm.specs.declared.code.Code.{Code}
-use Rattle.tb_perm.specs.declared.code.Code.TheVariants.{L1, L2, L3, L4, L5, L6, S2, U1}
+use Rattle.tb_perm.specs.declared.code.Code.TheVariants.{L1, L2, L3, L4, L5, L6, P1, P2, S2, U1}
 use Rattle.tb_lex.specs.declared.literal.Literal.{Literal}
 use Rattle.tb_lex.specs.declared.literal.Literal.TheVariants as literal
 use Rattle.tb_lex.specs.declared.literal.Stage.TheVariants.{Open}
@@ -182,6 +182,8 @@ no_suffix (Some s) tail e some other = other s e
 
 pub fault-place : (code : Code) (piece rest : List ℕ) → IsFault code piece rest → place (piece ++ rest) ≡ Fault code rest
 fault-place L1 piece rest is = absurd is
+fault-place P1 piece rest is = absurd is
+fault-place P2 piece rest is = absurd is
 fault-place S2 piece rest is = absurd is
 fault-place U1 piece rest is = absurd is
 fault-place L2 piece rest is =
@@ -202,6 +204,8 @@ fault-place L6 piece rest (base, digits, tail, whole, is, sound, some, other) =
 -- a fault has a piece
 pub fault-some : (code : Code) (rest : List ℕ) → IsFault code [] rest → ⊥
 fault-some L1 rest is = is
+fault-some P1 rest is = is
+fault-some P2 rest is = is
 fault-some S2 rest is = is
 fault-some U1 rest is = is
 fault-some L2 rest is = let h = is.1 in cc

@@ -2,7 +2,7 @@
 use Rattle.std.specs.Prelude.{◌≡◌, ◌≢◌, ℕ, ◌≤◌, true, false, List, [], ◌∷◌, ◌++◌, length}
 use Rattle.std.specs.Char.{is_ascii_digit}
 use Rattle.tb_perm.specs.declared.code.Code.{Code}
-use Rattle.tb_perm.specs.declared.code.Code.TheVariants.{L2, L3, L4, L5, L6, L1, S2, U1}
+use Rattle.tb_perm.specs.declared.code.Code.TheVariants.{L2, L3, L4, L5, L6, L1, P1, P2, S2, U1}
 use Rattle.tb_lex.specs.declared.literal.Literal.{Literal}
 use Rattle.tb_lex.specs.declared.punctuation.Punctuation.{Punctuation}
 use Rattle.tb_lex.specs.declared.suffix.Suffix.{Suffix}
@@ -41,5 +41,7 @@ IsFault L6 piece rest =
     (base : ℕ) × (digits tail : List ℕ) × IsDigitWord piece rest × IsNumber piece base digits tail × (is_sound base digits ≡ true)
     × (tail ≢ []) × ((suffix : Suffix) → tail ≢ suffix_text suffix)
 IsFault L1 piece rest = ⊥
+IsFault P1 piece rest = ⊥
+IsFault P2 piece rest = ⊥
 IsFault S2 piece rest = ⊥
 IsFault U1 piece rest = ⊥

@@ -14,6 +14,10 @@ pub enum Code {
     L5,
     /// A number followed by identifier characters that are no suffix.
     L6,
+    /// A token with which nothing that is due begins or goes on.
+    P1,
+    /// More than 100 brackets lie in one another.
+    P2,
     /// The source has more than 1,048,576 bytes.
     S2,
     /// The source is outside the part of the language that is built so far.
