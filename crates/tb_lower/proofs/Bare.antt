@@ -2,23 +2,23 @@
 use Rattle.std.proofs.Common.{◌≡◌, Bool, true, false, if◌then◌else◌, ℕ, List, [], ◌∷◌, ◌++◌, map, reverse, codes, refl, ap, ◌∙◌}
 use Rattle.std.specs.List.{AllByRecursion}
 use Rattle.tb_perm.specs.declared.span.Span.{Span}
-use Rattle.tb_parse.specs.declared.tree.SmallTree.{SmallTree}
-use Rattle.tb_parse.specs.declared.tree.Spot.{Spot}
-use Rattle.tb_parse.specs.declared.tree.Spot.TheVariants as spot
-use Rattle.tb_parse.specs.declared.tree.Atom.{Atom}
-use Rattle.tb_parse.specs.declared.tree.Atom.TheVariants as atom
-use Rattle.tb_parse.specs.declared.tree.Sum.{Sum}
-use Rattle.tb_parse.specs.declared.tree.Value.{Value}
-use Rattle.tb_parse.specs.declared.tree.Value.TheVariants as value
-use Rattle.tb_parse.specs.declared.tree.Let.{Let}
-use Rattle.tb_parse.specs.declared.tree.Assign.{Assign}
-use Rattle.tb_parse.specs.declared.tree.Print.{Print}
-use Rattle.tb_parse.specs.declared.tree.UnsafeBlock.{UnsafeBlock}
-use Rattle.tb_parse.specs.declared.tree.Inner.{Inner}
-use Rattle.tb_parse.specs.declared.tree.Inner.TheVariants as inner
-use Rattle.tb_parse.specs.declared.tree.Statement.{Statement}
-use Rattle.tb_parse.specs.declared.tree.Statement.TheVariants as statement
-use Rattle.tb_parse.specs.Grammar.{right_value}
+use Rattle.tb_small.specs.declared.tree.SmallTree.{SmallTree}
+use Rattle.tb_small.specs.declared.tree.Spot.{Spot}
+use Rattle.tb_small.specs.declared.tree.Spot.TheVariants as spot
+use Rattle.tb_small.specs.declared.tree.Atom.{Atom}
+use Rattle.tb_small.specs.declared.tree.Atom.TheVariants as atom
+use Rattle.tb_small.specs.declared.tree.Sum.{Sum}
+use Rattle.tb_small.specs.declared.tree.Value.{Value}
+use Rattle.tb_small.specs.declared.tree.Value.TheVariants as value
+use Rattle.tb_small.specs.declared.tree.Let.{Let}
+use Rattle.tb_small.specs.declared.tree.Assign.{Assign}
+use Rattle.tb_small.specs.declared.tree.Print.{Print}
+use Rattle.tb_small.specs.declared.tree.UnsafeBlock.{UnsafeBlock}
+use Rattle.tb_small.specs.declared.tree.Inner.{Inner}
+use Rattle.tb_small.specs.declared.tree.Inner.TheVariants as inner
+use Rattle.tb_small.specs.declared.tree.Statement.{Statement}
+use Rattle.tb_small.specs.declared.tree.Statement.TheVariants as statement
+use Rattle.tb_small.specs.Grammar.{right_value}
 use Rattle.tb_mir.specs.Retags.{is_retag, bare_lines, without_retags}
 use Rattle.tb_mir.specs.declared.line.Line.TheVariants.{Dead}
 use Rattle.tb_mir.specs.declared.line.MirLine.{MirLine}

@@ -1,19 +1,19 @@
 -- How many locals a source brings in.
 use Rattle.std.proofs.Common.{◌≡◌, ◌≤◌, ◌+◌, List, [], ◌∷◌, ◌++◌, sum_by, refl, arith}
 use Rattle.std.proofs.lemmas.List.Sums.{sum_by-cons}
-use Rattle.tb_parse.specs.Grammar.{atom_locals, sum_locals, spot_locals, value_locals, right_value, inner_locals, statement_locals, locals}
-use Rattle.tb_parse.specs.declared.tree.SmallTree.{SmallTree}
-use Rattle.tb_parse.specs.declared.tree.Spot.{Spot}
-use Rattle.tb_parse.specs.declared.tree.Spot.TheVariants as spot
-use Rattle.tb_parse.specs.declared.tree.Atom.{Atom}
-use Rattle.tb_parse.specs.declared.tree.Atom.TheVariants as atom
-use Rattle.tb_parse.specs.declared.tree.Sum.{Sum}
-use Rattle.tb_parse.specs.declared.tree.Value.{Value}
-use Rattle.tb_parse.specs.declared.tree.Value.TheVariants as value
-use Rattle.tb_parse.specs.declared.tree.Inner.{Inner}
-use Rattle.tb_parse.specs.declared.tree.Inner.TheVariants as inner
-use Rattle.tb_parse.specs.declared.tree.Statement.{Statement}
-use Rattle.tb_parse.specs.declared.tree.Statement.TheVariants as statement
+use Rattle.tb_small.specs.Grammar.{atom_locals, sum_locals, spot_locals, value_locals, right_value, inner_locals, statement_locals, locals}
+use Rattle.tb_small.specs.declared.tree.SmallTree.{SmallTree}
+use Rattle.tb_small.specs.declared.tree.Spot.{Spot}
+use Rattle.tb_small.specs.declared.tree.Spot.TheVariants as spot
+use Rattle.tb_small.specs.declared.tree.Atom.{Atom}
+use Rattle.tb_small.specs.declared.tree.Atom.TheVariants as atom
+use Rattle.tb_small.specs.declared.tree.Sum.{Sum}
+use Rattle.tb_small.specs.declared.tree.Value.{Value}
+use Rattle.tb_small.specs.declared.tree.Value.TheVariants as value
+use Rattle.tb_small.specs.declared.tree.Inner.{Inner}
+use Rattle.tb_small.specs.declared.tree.Inner.TheVariants as inner
+use Rattle.tb_small.specs.declared.tree.Statement.{Statement}
+use Rattle.tb_small.specs.declared.tree.Statement.TheVariants as statement
 use Rattle.tb_mir.specs.declared.mir.Ty.{Ty}
 use Rattle.tb_lower.specs.Lowering.{declared_types, spot_shape, atom_shape, more_shape, sum_shape, sums_shape, value_shape, inner_shape, inners_shape, statement_shape, statements_shape, main_shape}
 use Rattle.tb_lower.specs.Ways.{count}

@@ -2,7 +2,7 @@
 use Rattle.std.proofs.Common.{◌≡◌, ◌<◌, ◌≤◌, ◌+◌, ◌-◌, ℕ, List, [], ◌∷◌, ◌++◌, length, map, take, get_or, reverse, codes, sym, ap, ◌∙◌, arith, append_assoc}
 use Rattle.std.proofs.lemmas.List.{take_more, reverse-append}
 use Rattle.tb_perm.specs.declared.span.Span.{Span}
-use Rattle.tb_parse.specs.declared.tree.SmallTree.{SmallTree}
+use Rattle.tb_small.specs.declared.tree.SmallTree.{SmallTree}
 use Rattle.tb_mir.specs.Retags.{without_retags}
 use Rattle.tb_mir.specs.declared.line.Line.TheVariants.{Dead}
 use Rattle.tb_mir.specs.declared.line.MirLine.{MirLine}

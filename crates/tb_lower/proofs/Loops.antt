@@ -3,12 +3,12 @@ use Rattle.std.proofs.Common.{◌≡◌, ◌<◌, ◌≤◌, ◌+◌, ◌-◌, �
 use Rattle.std.specs.List.{AllByRecursion}
 use Rattle.std.proofs.lemmas.List.{append-nil, map-append, drop_more, take_all}
 use Rattle.std.proofs.lemmas.Bool.Decides.{nat_tests}
-use Rattle.tb_parse.specs.Grammar.{bindings}
-use Rattle.tb_parse.specs.declared.tree.Atom.{Atom}
-use Rattle.tb_parse.specs.declared.tree.Sum.{Sum}
-use Rattle.tb_parse.specs.declared.tree.Inner.{Inner}
-use Rattle.tb_parse.specs.declared.tree.Statement.{Statement}
-use Rattle.tb_parse.specs.declared.tree.Statement.TheVariants as statement
+use Rattle.tb_small.specs.Grammar.{bindings}
+use Rattle.tb_small.specs.declared.tree.Atom.{Atom}
+use Rattle.tb_small.specs.declared.tree.Sum.{Sum}
+use Rattle.tb_small.specs.declared.tree.Inner.{Inner}
+use Rattle.tb_small.specs.declared.tree.Statement.{Statement}
+use Rattle.tb_small.specs.declared.tree.Statement.TheVariants as statement
 use Rattle.tb_mir.specs.declared.mir.Local.{Local}
 use Rattle.tb_mir.specs.declared.operand.Operand.{Operand}
 use Rattle.tb_mir.specs.declared.operand.Operand.TheVariants.{Temp}

@@ -1,22 +1,22 @@
 -- A source within the limits, whose names have a meaning, is ready.
 use Rattle.std.proofs.Common.{Bool, true, false, List, [], ◌∷◌, ◌++◌, length, subst, length-append}
 use Rattle.std.specs.List.{AllByRecursion, flat_map}
-use Rattle.tb_parse.specs.Grammar.{bindings, IsSpot, IsTarget, IsAtom, IsSum, IsValue, IsRight, IsAssign, IsInner, IsStatement, AreStatements, IsAtomWithin, IsSumWithin, right_value, value_sums, inner_sums, sums}
-use Rattle.tb_parse.specs.Scope.{Binding}
-use Rattle.tb_parse.specs.declared.tree.Spot.{Spot}
-use Rattle.tb_parse.specs.declared.tree.Spot.TheVariants as spot
-use Rattle.tb_parse.specs.declared.tree.Atom.{Atom}
-use Rattle.tb_parse.specs.declared.tree.Atom.TheVariants as atom
-use Rattle.tb_parse.specs.declared.tree.Sum.{Sum}
-use Rattle.tb_parse.specs.declared.tree.Value.{Value}
-use Rattle.tb_parse.specs.declared.tree.Value.TheVariants as value
-use Rattle.tb_parse.specs.declared.tree.Right.{Right}
-use Rattle.tb_parse.specs.declared.tree.Right.TheVariants as right
-use Rattle.tb_parse.specs.declared.tree.Assign.{Assign}
-use Rattle.tb_parse.specs.declared.tree.Inner.{Inner}
-use Rattle.tb_parse.specs.declared.tree.Inner.TheVariants as inner
-use Rattle.tb_parse.specs.declared.tree.Statement.{Statement}
-use Rattle.tb_parse.specs.declared.tree.Statement.TheVariants as statement
+use Rattle.tb_small.specs.Grammar.{bindings, IsSpot, IsTarget, IsAtom, IsSum, IsValue, IsRight, IsAssign, IsInner, IsStatement, AreStatements, IsAtomWithin, IsSumWithin, right_value, value_sums, inner_sums, sums}
+use Rattle.tb_small.specs.Scope.{Binding}
+use Rattle.tb_small.specs.declared.tree.Spot.{Spot}
+use Rattle.tb_small.specs.declared.tree.Spot.TheVariants as spot
+use Rattle.tb_small.specs.declared.tree.Atom.{Atom}
+use Rattle.tb_small.specs.declared.tree.Atom.TheVariants as atom
+use Rattle.tb_small.specs.declared.tree.Sum.{Sum}
+use Rattle.tb_small.specs.declared.tree.Value.{Value}
+use Rattle.tb_small.specs.declared.tree.Value.TheVariants as value
+use Rattle.tb_small.specs.declared.tree.Right.{Right}
+use Rattle.tb_small.specs.declared.tree.Right.TheVariants as right
+use Rattle.tb_small.specs.declared.tree.Assign.{Assign}
+use Rattle.tb_small.specs.declared.tree.Inner.{Inner}
+use Rattle.tb_small.specs.declared.tree.Inner.TheVariants as inner
+use Rattle.tb_small.specs.declared.tree.Statement.{Statement}
+use Rattle.tb_small.specs.declared.tree.Statement.TheVariants as statement
 use Rattle.tb_lower.specs.Ready.{IsSpotReady, IsAtomReady, IsSumReady, IsValueReady, IsRightReady, IsAssignReady, IsInnerReady, IsStatementReady, AreReady}
 
 operand_ready : (scope : List Binding) (inside : Bool) (s : Spot) → IsSpot scope inside s → IsSpotReady (length scope) s

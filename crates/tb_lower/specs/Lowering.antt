@@ -1,30 +1,30 @@
 -- The lines that a source is lowered to. Each rule has the shape of what it brings in, and lines over the names of that shape.
 use Rattle.std.specs.Prelude.{◌≡◌, ℕ, pos, Bool, true, false, if◌then◌else◌, List, [], ◌∷◌, ◌++◌, map, reverse, slice_index_or, codes}
 use Rattle.tb_perm.specs.declared.span.Span.{Span}
-use Rattle.tb_parse.specs.Grammar.{right_value, spot_span}
-use Rattle.tb_parse.specs.declared.tree.SmallTree.{SmallTree}
-use Rattle.tb_parse.specs.declared.tree.Statement.{Statement}
-use Rattle.tb_parse.specs.declared.tree.Statement.TheVariants as statement
-use Rattle.tb_parse.specs.declared.tree.Inner.{Inner}
-use Rattle.tb_parse.specs.declared.tree.Inner.TheVariants as inner
-use Rattle.tb_parse.specs.declared.tree.Let.{Let}
-use Rattle.tb_parse.specs.declared.tree.Assign.{Assign}
-use Rattle.tb_parse.specs.declared.tree.Print.{Print}
-use Rattle.tb_parse.specs.declared.tree.UnsafeBlock.{UnsafeBlock}
-use Rattle.tb_parse.specs.declared.tree.Right.{Right}
-use Rattle.tb_parse.specs.declared.tree.Right.TheVariants as right
-use Rattle.tb_parse.specs.declared.tree.Value.{Value}
-use Rattle.tb_parse.specs.declared.tree.Value.TheVariants as value
-use Rattle.tb_parse.specs.declared.tree.Borrow.{Borrow}
-use Rattle.tb_parse.specs.declared.tree.RefKind as tree_kind
-use Rattle.tb_parse.specs.declared.tree.RefKind.TheVariants as written
-use Rattle.tb_parse.specs.declared.tree.Ty as tree_ty
-use Rattle.tb_parse.specs.declared.tree.Ty.TheVariants as known
-use Rattle.tb_parse.specs.declared.tree.Spot.{Spot}
-use Rattle.tb_parse.specs.declared.tree.Spot.TheVariants as spot
-use Rattle.tb_parse.specs.declared.tree.Atom.{Atom}
-use Rattle.tb_parse.specs.declared.tree.Atom.TheVariants as atom
-use Rattle.tb_parse.specs.declared.tree.Sum.{Sum}
+use Rattle.tb_small.specs.Grammar.{right_value, spot_span}
+use Rattle.tb_small.specs.declared.tree.SmallTree.{SmallTree}
+use Rattle.tb_small.specs.declared.tree.Statement.{Statement}
+use Rattle.tb_small.specs.declared.tree.Statement.TheVariants as statement
+use Rattle.tb_small.specs.declared.tree.Inner.{Inner}
+use Rattle.tb_small.specs.declared.tree.Inner.TheVariants as inner
+use Rattle.tb_small.specs.declared.tree.Let.{Let}
+use Rattle.tb_small.specs.declared.tree.Assign.{Assign}
+use Rattle.tb_small.specs.declared.tree.Print.{Print}
+use Rattle.tb_small.specs.declared.tree.UnsafeBlock.{UnsafeBlock}
+use Rattle.tb_small.specs.declared.tree.Right.{Right}
+use Rattle.tb_small.specs.declared.tree.Right.TheVariants as right
+use Rattle.tb_small.specs.declared.tree.Value.{Value}
+use Rattle.tb_small.specs.declared.tree.Value.TheVariants as value
+use Rattle.tb_small.specs.declared.tree.Borrow.{Borrow}
+use Rattle.tb_small.specs.declared.tree.RefKind as tree_kind
+use Rattle.tb_small.specs.declared.tree.RefKind.TheVariants as written
+use Rattle.tb_small.specs.declared.tree.Ty as tree_ty
+use Rattle.tb_small.specs.declared.tree.Ty.TheVariants as known
+use Rattle.tb_small.specs.declared.tree.Spot.{Spot}
+use Rattle.tb_small.specs.declared.tree.Spot.TheVariants as spot
+use Rattle.tb_small.specs.declared.tree.Atom.{Atom}
+use Rattle.tb_small.specs.declared.tree.Atom.TheVariants as atom
+use Rattle.tb_small.specs.declared.tree.Sum.{Sum}
 use Rattle.tb_mir.specs.Retags.{without_retags}
 use Rattle.tb_mir.specs.declared.line.Line.{Line}
 use Rattle.tb_mir.specs.declared.line.Line.TheVariants as line

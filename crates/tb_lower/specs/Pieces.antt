@@ -1,7 +1,7 @@
 -- Words of the clauses by which the lowering is proved: what was lowered so far, and pieces of rules.
 use Rattle.std.specs.Prelude.{List, [], ◌∷◌, ◌++◌, vec_len}
-use Rattle.tb_parse.specs.declared.tree.Assign.{Assign}
-use Rattle.tb_parse.specs.declared.tree.Atom.{Atom}
+use Rattle.tb_small.specs.declared.tree.Assign.{Assign}
+use Rattle.tb_small.specs.declared.tree.Atom.{Atom}
 use Rattle.tb_mir.specs.declared.line.Line.TheVariants.{Set, Store}
 use Rattle.tb_mir.specs.declared.line.MirLine.{MirLine}
 use Rattle.tb_mir.specs.declared.mir.Ty.{Ty}

@@ -1,21 +1,21 @@
 -- What the lowering asks of a source: each mention is of a variable that is there, and each literal fits.
 use Rattle.std.specs.Prelude.{ℕ, ◌+◌, ◌<◌, ◌≤◌, List, [], ◌∷◌, length, ⊤}
 use Rattle.std.specs.List.{AllByRecursion}
-use Rattle.tb_parse.specs.Grammar.{bindings, right_value}
-use Rattle.tb_parse.specs.declared.tree.Atom.{Atom}
-use Rattle.tb_parse.specs.declared.tree.Atom.TheVariants as atom
-use Rattle.tb_parse.specs.declared.tree.Spot.{Spot}
-use Rattle.tb_parse.specs.declared.tree.Spot.TheVariants as spot
-use Rattle.tb_parse.specs.declared.tree.Sum.{Sum}
-use Rattle.tb_parse.specs.declared.tree.Value.{Value}
-use Rattle.tb_parse.specs.declared.tree.Value.TheVariants as value
-use Rattle.tb_parse.specs.declared.tree.Right.{Right}
-use Rattle.tb_parse.specs.declared.tree.Assign.{Assign}
-use Rattle.tb_parse.specs.declared.tree.Print.{Print}
-use Rattle.tb_parse.specs.declared.tree.Inner.{Inner}
-use Rattle.tb_parse.specs.declared.tree.Inner.TheVariants as inner
-use Rattle.tb_parse.specs.declared.tree.Statement.{Statement}
-use Rattle.tb_parse.specs.declared.tree.Statement.TheVariants as statement
+use Rattle.tb_small.specs.Grammar.{bindings, right_value}
+use Rattle.tb_small.specs.declared.tree.Atom.{Atom}
+use Rattle.tb_small.specs.declared.tree.Atom.TheVariants as atom
+use Rattle.tb_small.specs.declared.tree.Spot.{Spot}
+use Rattle.tb_small.specs.declared.tree.Spot.TheVariants as spot
+use Rattle.tb_small.specs.declared.tree.Sum.{Sum}
+use Rattle.tb_small.specs.declared.tree.Value.{Value}
+use Rattle.tb_small.specs.declared.tree.Value.TheVariants as value
+use Rattle.tb_small.specs.declared.tree.Right.{Right}
+use Rattle.tb_small.specs.declared.tree.Assign.{Assign}
+use Rattle.tb_small.specs.declared.tree.Print.{Print}
+use Rattle.tb_small.specs.declared.tree.Inner.{Inner}
+use Rattle.tb_small.specs.declared.tree.Inner.TheVariants as inner
+use Rattle.tb_small.specs.declared.tree.Statement.{Statement}
+use Rattle.tb_small.specs.declared.tree.Statement.TheVariants as statement
 
 -- behind this many lets
 abbrev pub IsSpotReady : ℕ → Spot → Type 0

@@ -1,6 +1,6 @@
 //! The whole source.
 ghost use Rattle.std.specs.Prelude.{◌≡◌, ◌≤◌, ◌+◌, ◌∷◌, ◌++◌, [], vec_len, OnOk, IfOk, codes};
-ghost use Rattle.tb_parse.specs.Grammar.{AreStatements, IsWithinLimits};
+ghost use Rattle.tb_small.specs.Grammar.{AreStatements, IsWithinLimits};
 ghost use Rattle.tb_lower.specs.Lowering.{main_shape, main_lines, Realises};
 ghost use Rattle.tb_lower.specs.Pieces.{names};
 ghost use Rattle.tb_lower.specs.Ready.{AreReady};
@@ -11,7 +11,7 @@ use crate::memory::Memory;
 use sqlite_items::Items;
 use std::alloc::Global;
 use tb_mir::{Block, Constant, Func, Line, Local, LocalKind, Mir, MirLine, Operand, Rvalue, Ty};
-use tb_parse::SmallTree;
+use tb_small::SmallTree;
 
 impl Lowering {
     /// Lowers the function of a source: its result is the first local, and then the body follows.

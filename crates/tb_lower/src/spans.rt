@@ -1,9 +1,9 @@
 //! Where the parts of a source stand.
 ghost use Rattle.std.specs.Prelude.{◌≡◌};
-ghost use Rattle.tb_parse.specs.Grammar.{spot_span};
+ghost use Rattle.tb_small.specs.Grammar.{spot_span};
 ghost use Rattle.tb_lower.specs.Lowering.{atom_span, last_atom, from_to, sum_span, value_span, right_span, assign_span};
 
-use tb_parse::{Assign, Atom, Right, Spot, Sum, Value};
+use tb_small::{Assign, Atom, Right, Spot, Sum, Value};
 use tb_perm::Span;
 
 /// Where a place stands.

@@ -12,7 +12,7 @@ use crate::spans::span_of_assign;
 use crate::values::lower_ty;
 use sqlite_items::Items;
 use tb_mir::{Line, LocalKind};
-use tb_parse::{Assign, Inner, Let, Print, Statement, UnsafeBlock};
+use tb_small::{Assign, Inner, Let, Print, Statement, UnsafeBlock};
 use tb_perm::Span;
 
 impl Lowering {

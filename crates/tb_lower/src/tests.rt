@@ -2,7 +2,7 @@ use crate::{law_names, lower_source};
 use std::alloc::{AllocError, Global};
 use std::test::Fail;
 use tb_mir::{Base, BinOp, Constant, Line, LocalKind, Mir, Operand, Place, RefKind, Rvalue};
-use tb_parse::small;
+use tb_small::small;
 
 /// A local by its number.
 fn local(alloc: Global, out: &mut Vec<u8>, local: u32) -> Result<(), AllocError> {

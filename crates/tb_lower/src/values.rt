@@ -1,7 +1,7 @@
 //! Places, sums and other values.
 ghost use Rattle.std.specs.Prelude.{◌≡◌, ◌≤◌, ◌+◌, ◌++◌, vec_len, OnOk, IfOk};
 ghost use Rattle.std.specs.List.{AllByRecursion};
-ghost use Rattle.tb_parse.specs.Grammar.{right_value};
+ghost use Rattle.tb_small.specs.Grammar.{right_value};
 ghost use Rattle.tb_lower.specs.Pieces.{types, names, addition_shape, addition_lines};
 ghost use Rattle.tb_lower.specs.Lowering.{kind_of, ty_of, spot_shape, spot_lines, spot_place, load_shape, load_lines, atom_shape, atom_lines, atom_operand, more_shape, more_lines, more_operand, sum_shape, sum_lines, sum_operand, sums_shape, sums_lines, sums_operands, borrow_shape, borrow_lines, value_shape, value_lines, value_operand, right_shape, right_lines, right_operand};
 ghost use Rattle.tb_lower.specs.Ready.{IsSpotReady, IsAtomReady, IsSumReady, IsValueReady, IsRightReady};
@@ -12,27 +12,27 @@ use crate::memory::Memory;
 use crate::spans::{span_from_to, span_of_spot};
 use sqlite_items::Items;
 use tb_mir::{BinOp, Constant, Line, LocalKind, Operand, Place, RefKind, Rvalue, Ty};
-use tb_parse::{Atom, Borrow, Right, Spot, Sum, Value};
+use tb_small::{Atom, Borrow, Right, Spot, Sum, Value};
 
 /// A kind of pointer.
-fn lower_kind(kind: tb_parse::RefKind) -> RefKind
+fn lower_kind(kind: tb_small::RefKind) -> RefKind
     ensures { result ≡ kind_of kind }
 {
     match kind {
-        tb_parse::RefKind::Shared => RefKind::Shared,
-        tb_parse::RefKind::Mut => RefKind::Mut,
-        tb_parse::RefKind::RawConst => RefKind::RawConst,
-        tb_parse::RefKind::RawMut => RefKind::RawMut,
+        tb_small::RefKind::Shared => RefKind::Shared,
+        tb_small::RefKind::Mut => RefKind::Mut,
+        tb_small::RefKind::RawConst => RefKind::RawConst,
+        tb_small::RefKind::RawMut => RefKind::RawMut,
     }
 }
 
 /// The type of a variable.
-pub fn lower_ty(ty: tb_parse::Ty) -> Ty
+pub fn lower_ty(ty: tb_small::Ty) -> Ty
     ensures { result ≡ ty_of ty }
 {
     match ty {
-        tb_parse::Ty::Int32 => Ty::Int32,
-        tb_parse::Ty::Pointer(kind) => Ty::Pointer(lower_kind(kind)),
+        tb_small::Ty::Int32 => Ty::Int32,
+        tb_small::Ty::Pointer(kind) => Ty::Pointer(lower_kind(kind)),
     }
 }
 

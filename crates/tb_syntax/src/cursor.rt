@@ -94,12 +94,16 @@ impl<'a> Cursor<'a> {
         Some(&token.kind)
     }
 
-    /// The mark that comes next, and the tokens behind it.
-    fn first_mark(&self) -> Option<(Punctuation, Mark, &'a [Token])>
-        ensures { option_map (λ x. (x.0, x.1, map piece_of x.2.now)) result ≡ first_mark self.now }
+    /// The whole mark that comes next, or what is left of one, and what follows it.
+    pub fn first_mark(&self) -> Option<(Punctuation, Mark, Cursor<'a>)>
+        ensures { result ≡ first_mark self.now }
     {
         if let Some((mark, span)) = self.left {
-            return Some((mark, Mark { span, glued: true }, self.tokens));
+            let rest = Cursor {
+                left: None,
+                tokens: self.tokens,
+            };
+            return Some((mark, Mark { span, glued: true }, rest));
         }
         let [token, tokens @ ..] = self.tokens else {
             return None;
@@ -113,7 +117,7 @@ impl<'a> Cursor<'a> {
                 span: token.span,
                 glued: false,
             },
-            tokens,
+            Cursor { left: None, tokens },
         ))
     }
 
@@ -122,9 +126,9 @@ impl<'a> Cursor<'a> {
     pub fn next_mark(&self, wanted: Punctuation) -> Option<(Mark, Cursor<'a>)>
         ensures { result ≡ mark_at wanted self.now }
     {
-        let (found, mark, tokens) = self.first_mark()?;
+        let (found, mark, rest) = self.first_mark()?;
         if found == wanted {
-            return Some((mark, Cursor { left: None, tokens }));
+            return Some((mark, rest));
         }
         let left = left_behind(wanted, found)?;
         let Span { lo, hi } = mark.span;
@@ -134,6 +138,7 @@ impl<'a> Cursor<'a> {
             glued: mark.glued,
         };
         let left = Some((left, Span { lo: middle, hi }));
+        let tokens = rest.tokens;
         Some((part, Cursor { left, tokens }))
     }
 

@@ -174,9 +174,9 @@ impl<'a> Cursor<'a> {
         Ok((TypeFront::Path(path), rest))
     }
 
-    /// The length of an array's type, and what follows it.
+    /// An integer without a suffix, as the length of an array's type, and what follows it.
     #[tactic(auto, unfolding(crate::specs::Types::length_at))]
-    fn length(self) -> Result<(IntLiteral, Cursor<'a>), ReadError>
+    pub fn length(self) -> Result<(IntLiteral, Cursor<'a>), ReadError>
         ensures { Gives (λ x. x) result (length_at self.entry) }
     {
         let (length, rest) = self.number()?;

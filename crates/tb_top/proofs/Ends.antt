@@ -5,7 +5,7 @@ use Rattle.tb_base.proofs.GrowthLaws.{GrewByPrefix-stays, GrewByPrefix-whole, Gr
 use Rattle.tb_base.specs.Outside.{FilesTold, bytes_under}
 use Rattle.tb_eval.specs.Run.{whole_run}
 use Rattle.tb_mir.specs.declared.mir.Mir.{Mir}
-use Rattle.tb_parse.specs.Grammar.{IsSmall}
+use Rattle.tb_small.specs.Grammar.{IsSmall}
 use Rattle.tb_top.specs.declared.halt.Halt.{Halt}
 use Rattle.tb_top.specs.declared.halt.Halt.TheVariants as halt
 use Rattle.tb_top.specs.Output.{Output, halted, ran, IsSource, IsOutput, Usage, TooLong, NotBuilt, Ran, Tells, EachOutput}

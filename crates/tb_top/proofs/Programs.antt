@@ -2,7 +2,7 @@
 use Rattle.std.proofs.Common.{◌≡◌, sym, ap, ◌∙◌}
 use Rattle.tb_mir.specs.Retags.{with_retags}
 use Rattle.tb_mir.specs.declared.mir.Mir.{Mir}
-use Rattle.tb_parse.specs.declared.tree.SmallTree.{SmallTree}
+use Rattle.tb_small.specs.declared.tree.SmallTree.{SmallTree}
 use Rattle.tb_top.specs.Program.{IsProgram}
 
 pub one_program : (tree : SmallTree) (a b : Mir) → IsProgram tree a → IsProgram tree b → a ≡ b

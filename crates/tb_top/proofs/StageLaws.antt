@@ -7,10 +7,10 @@ use Rattle.tb_eval.specs.declared.outcome.Outcome.{Outcome}
 use Rattle.tb_eval.specs.declared.outcome.Outcome.TheVariants as outcome
 use Rattle.tb_mir.specs.declared.mir.Mir.{Mir}
 use Rattle.tb_run.specs.Stepped.{SeenOut, RunsWhole, RunsOut, RunsAs}
-use Rattle.tb_parse.specs.declared.tree.SmallTree.{SmallTree}
-use Rattle.tb_parse.specs.declared.error.SmallError.{SmallError}
-use Rattle.tb_parse.specs.declared.error.SmallError.TheVariants as parse
-use Rattle.tb_parse.specs.Grammar.{IsSmall}
+use Rattle.tb_small.specs.declared.tree.SmallTree.{SmallTree}
+use Rattle.tb_small.specs.declared.error.SmallError.{SmallError}
+use Rattle.tb_small.specs.declared.error.SmallError.TheVariants as parse
+use Rattle.tb_small.specs.Grammar.{IsSmall}
 use Rattle.tb_top.specs.declared.halt.Halt.{Halt}
 use Rattle.tb_top.specs.declared.halt.Halt.TheVariants as halt
 use Rattle.tb_top.specs.Conclusion.{Concludes, ReportsAs, RunEnds}

@@ -7,8 +7,8 @@ use Rattle.tb_eval.specs.Run.{Run, whole_run}
 use Rattle.tb_eval.specs.declared.outcome.Outcome.{Outcome}
 use Rattle.tb_eval.specs.declared.outcome.Outcome.TheVariants.{Finished, Undefined, Panic, StepLimit, WriteFault, Memory}
 use Rattle.tb_mir.specs.declared.mir.Mir.{Mir}
-use Rattle.tb_parse.specs.declared.tree.SmallTree.{SmallTree}
-use Rattle.tb_parse.specs.Grammar.{IsSmall}
+use Rattle.tb_small.specs.declared.tree.SmallTree.{SmallTree}
+use Rattle.tb_small.specs.Grammar.{IsSmall}
 use Rattle.tb_top.specs.declared.halt.Halt.{Halt}
 use Rattle.tb_top.specs.declared.halt.Halt.TheVariants as halt
 use Rattle.tb_top.specs.Program.{IsProgram}

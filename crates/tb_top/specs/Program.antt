@@ -2,7 +2,7 @@
 use Rattle.tb_lower.specs.Lowering.{Realises}
 use Rattle.tb_mir.specs.Retags.{RetagPlaced}
 use Rattle.tb_mir.specs.declared.mir.Mir.{Mir}
-use Rattle.tb_parse.specs.declared.tree.SmallTree.{SmallTree}
+use Rattle.tb_small.specs.declared.tree.SmallTree.{SmallTree}
 
 -- what the tree is lowered to, with its retags at their places
 pub record IsProgram (tree : SmallTree) (mir : Mir) : Type 0 where

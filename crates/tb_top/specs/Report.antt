@@ -1,8 +1,8 @@
 -- The reports of a call that does not finish, and its statuses.
 use Rattle.std.specs.Prelude.{◌≡◌, ◌<◌, ◌⊎◌, ℕ, List, Option, codes}
 use Rattle.tb_base.specs.Growth.{Grew, GrewByPrefix}
-use Rattle.tb_parse.specs.declared.error.SmallError.{SmallError}
-use Rattle.tb_parse.specs.declared.error.SmallError.TheVariants as parse
+use Rattle.tb_small.specs.declared.error.SmallError.{SmallError}
+use Rattle.tb_small.specs.declared.error.SmallError.TheVariants as parse
 use Rattle.tb_top.specs.declared.read.ReadError.{ReadError}
 use Rattle.tb_top.specs.declared.read.ReadError.TheVariants as read
 use Rattle.tb_top.specs.declared.halt.Halt.{Halt}

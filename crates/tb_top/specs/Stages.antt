@@ -5,8 +5,8 @@ use Rattle.tb_base.specs.Outside.{FilesTold}
 use Rattle.tb_diag.specs.Report.{report_of}
 use Rattle.tb_eval.specs.Run.{whole_run}
 use Rattle.tb_mir.specs.declared.mir.Mir.{Mir}
-use Rattle.tb_parse.specs.declared.tree.SmallTree.{SmallTree}
-use Rattle.tb_parse.specs.Grammar.{IsSmall}
+use Rattle.tb_small.specs.declared.tree.SmallTree.{SmallTree}
+use Rattle.tb_small.specs.Grammar.{IsSmall}
 use Rattle.tb_top.specs.declared.halt.Halt.{Halt}
 use Rattle.tb_top.specs.declared.halt.Halt.TheVariants as halt
 use Rattle.tb_top.specs.Output.{longest, status_of_end}

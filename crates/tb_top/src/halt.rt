@@ -2,7 +2,7 @@ ghost use Rattle.std.specs.Prelude.{◌≡◌};
 
 use crate::read::ReadError;
 use sqlite_items::Items;
-use tb_parse::SmallError;
+use tb_small::SmallError;
 
 /// Why a call ends without finishing.
 #[derive(Debug, Drop)]

@@ -3,7 +3,7 @@ ghost use Rattle.std.specs.Prelude.{◌≡◌};
 ghost use Rattle.tb_top.specs.Program.{IsProgram};
 
 use tb_mir::Mir;
-use tb_parse::SmallTree;
+use tb_small::SmallTree;
 
 /// A source has one program: two programs that are what a tree is lowered to, with their retags at their places, are
 /// equal.

@@ -1,7 +1,7 @@
 //! A call up to its report: reads the source that the words name, lowers it and runs it.
 ghost use Rattle.std.specs.Prelude.{◌≡◌, ◌≢◌, ◌<◌, ◌≤◌, ◌-◌, ◌^◌, [], length, map, string_bytes, IfOk, IfErr};
 ghost use Rattle.tb_eval.specs.Run.{whole_run};
-ghost use Rattle.tb_parse.specs.Grammar.{AreStatements, IsWithinLimits};
+ghost use Rattle.tb_small.specs.Grammar.{AreStatements, IsWithinLimits};
 ghost use Rattle.tb_top.specs.Conclusion.{Concludes, RunEnds};
 ghost use Rattle.tb_top.specs.Program.{IsProgram};
 ghost use Rattle.tb_top.specs.Stages.{ComesTo};
@@ -18,7 +18,7 @@ use tb_diag::report;
 use tb_eval::Outcome;
 use tb_lower::lower_source;
 use tb_mir::Mir;
-use tb_parse::{SmallTree, small};
+use tb_small::{SmallTree, small};
 use tb_perm::Steps;
 use tb_plain::PlainTree;
 use tb_retag::place;

@@ -1,7 +1,0 @@
-use Rattle.tb_parse.specs.Words.{after_space}
-use Rattle.tb_parse.proofs.Bytes.{word-cut}
-use Rattle.tb_parse.proofs.words.next_word.Goals as goal
-
-pub returns-clause-word : goal.returns-clause-word
-returns-clause-word c =
-    rw (c.after_word-rest.ensures.after, c.after_space-text.ensures) (word-cut (after_space c.args.text.now))
