@@ -21,6 +21,7 @@ pub use cursor::Cursor;
 pub use error::ReadError;
 pub use heads::FunctionHead;
 pub use laws::{law_attributes, law_items, law_paths, law_pieces, law_tokens};
+pub use types::from_to;
 
 #[cfg(test)]
 mod tests;
