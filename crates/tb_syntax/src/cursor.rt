@@ -94,16 +94,12 @@ impl<'a> Cursor<'a> {
         Some(&token.kind)
     }
 
-    /// The whole mark that comes next, or what is left of one, and what follows it.
-    pub fn first_mark(&self) -> Option<(Punctuation, Mark, Cursor<'a>)>
-        ensures { result ≡ first_mark self.now }
+    /// The mark that comes next, and the tokens behind it.
+    fn mark_ahead(&self) -> Option<(Punctuation, Mark, &'a [Token])>
+        ensures { option_map (λ x. (x.0, x.1, map piece_of x.2.now)) result ≡ first_mark self.now }
     {
         if let Some((mark, span)) = self.left {
-            let rest = Cursor {
-                left: None,
-                tokens: self.tokens,
-            };
-            return Some((mark, Mark { span, glued: true }, rest));
+            return Some((mark, Mark { span, glued: true }, self.tokens));
         }
         let [token, tokens @ ..] = self.tokens else {
             return None;
@@ -117,8 +113,16 @@ impl<'a> Cursor<'a> {
                 span: token.span,
                 glued: false,
             },
-            Cursor { left: None, tokens },
+            tokens,
         ))
+    }
+
+    /// The whole mark that comes next, or what is left of one, and what follows it.
+    pub fn first_mark(&self) -> Option<(Punctuation, Mark, Cursor<'a>)>
+        ensures { result ≡ first_mark self.now }
+    {
+        let (found, mark, tokens) = self.mark_ahead()?;
+        Some((found, mark, Cursor { left: None, tokens }))
     }
 
     /// This mark, if it comes next, and what follows it.
@@ -126,9 +130,9 @@ impl<'a> Cursor<'a> {
     pub fn next_mark(&self, wanted: Punctuation) -> Option<(Mark, Cursor<'a>)>
         ensures { result ≡ mark_at wanted self.now }
     {
-        let (found, mark, rest) = self.first_mark()?;
+        let (found, mark, tokens) = self.mark_ahead()?;
         if found == wanted {
-            return Some((mark, rest));
+            return Some((mark, Cursor { left: None, tokens }));
         }
         let left = left_behind(wanted, found)?;
         let Span { lo, hi } = mark.span;
@@ -138,7 +142,6 @@ impl<'a> Cursor<'a> {
             glued: mark.glued,
         };
         let left = Some((left, Span { lo: middle, hi }));
-        let tokens = rest.tokens;
         Some((part, Cursor { left, tokens }))
     }
 
@@ -169,7 +172,7 @@ impl<'a> Cursor<'a> {
     pub fn has_mark(&self, wanted: Punctuation) -> bool
         ensures { result ≡ has_mark wanted self.now }
     {
-        match self.first_mark() {
+        match self.mark_ahead() {
             Some((found, _, _)) => found == wanted || left_behind(wanted, found).is_some(),
             None => false,
         }
