@@ -12,6 +12,11 @@ use Rattle.tb_ast.specs.Joined.{joint, over, joined_before, IsApart}
 abbrev pub State : Type 0
 State = List Piece
 
+-- what the piece at the front is
+abbrev pub first_kind : State → Option TokenKind
+first_kind [] = None
+first_kind (piece ∷ state) = Some piece.kind
+
 -- all pieces but the first are whole tokens
 abbrev pub IsState : State → Type 0
 IsState [] = Unit {0}

@@ -1,9 +1,9 @@
 //! What is still to be read, and the marks at its front.
 
-ghost use Rattle.std.specs.Prelude.{◌≡◌, map, length};
+ghost use Rattle.std.specs.Prelude.{◌≡◌, map, length, None};
 ghost use Rattle.std.specs.Option.{option_map};
 ghost use Rattle.tb_syntax.specs.Reading.{Gives};
-ghost use Rattle.tb_syntax.specs.State.{piece_of};
+ghost use Rattle.tb_syntax.specs.State.{piece_of, first_kind};
 ghost use Rattle.tb_syntax.specs.Marks.{left_behind, first_mark, mark_at, punct_at, has_mark};
 ghost use Rattle.tb_syntax.specs.Leaves.{token_at};
 
@@ -58,32 +58,33 @@ impl<'a> Cursor<'a> {
         self.tokens.len() + usize::from(self.left.is_some())
     }
 
-    /// The same, to look further ahead.
-    pub fn copied(&self) -> Cursor<'a>
-        ensures { result ≡ self.now }
-    {
-        Cursor {
-            left: self.left,
-            tokens: self.tokens,
-        }
-    }
-
     /// The whole token that comes next, and what follows it.
     pub fn token(self) -> Result<(&'a Token, Cursor<'a>), ReadError>
         ensures { Gives (λ x. (x.0.now, x.1)) result (token_at self.entry) }
     {
-        if self.left.is_some() {
-            return Err(ReadError::Unexpected);
+        match self.next_token() {
+            Some(found) => Ok(found),
+            None => Err(ReadError::Unexpected),
         }
-        let [token, tokens @ ..] = self.tokens else {
-            return Err(ReadError::Unexpected);
-        };
-        Ok((token, Cursor { left: None, tokens }))
     }
 
-    /// The kind of the whole token that comes next.
+    /// The whole token that comes next, if one does, and what follows it.
+    pub fn next_token(&self) -> Option<(&'a Token, Cursor<'a>)>
+        ensures { option_map (λ x. (x.0.now, x.1)) result ≡ token_at self.now }
+    {
+        if self.left.is_some() {
+            return None;
+        }
+        let [token, tokens @ ..] = self.tokens else {
+            return None;
+        };
+        Some((token, Cursor { left: None, tokens }))
+    }
+
+    /// The kind of the whole token that comes next; what is left of a token is a mark.
     pub fn kind(&self) -> Option<&'a TokenKind>
-        ensures { option_map (λ kind. kind.now) result ≡ option_map (λ x. x.0.kind) (token_at self.now) }
+        ensures whole { option_map (λ kind. kind.now) result ≡ option_map (λ x. x.0.kind) (token_at self.now) }
+        ensures unmarked { first_mark self.now ≡ None → option_map (λ kind. kind.now) result ≡ first_kind self.now }
     {
         if self.left.is_some() {
             return None;

@@ -53,6 +53,19 @@ impl<'a> Cursor<'a> {
         }
     }
 
+    /// The same, if it comes next.
+    #[tactic(auto, unfolding(crate::specs::Leaves::keyword_at))]
+    pub fn next_keyword(&self, word: Keyword) -> Option<(Span, Cursor<'a>)>
+        ensures { result ≡ keyword_at word self.now }
+    {
+        let (token, rest) = self.next_token()?;
+        if is_keyword(word, &token.kind) {
+            Some((token.span, rest))
+        } else {
+            None
+        }
+    }
+
     /// An identifier, and what follows it.
     #[tactic(auto, unfolding(crate::specs::Leaves::name_at))]
     pub fn name(self, alloc: Global) -> Result<(Ident, Cursor<'a>), ReadError>
@@ -86,6 +99,22 @@ impl<'a> Cursor<'a> {
             Ok((token.span, rest))
         } else {
             Err(ReadError::Unexpected)
+        }
+    }
+
+    /// The same, if it comes next.
+    #[tactic(auto, unfolding(crate::specs::Leaves::word_at))]
+    pub fn next_word(&self, word: &str) -> Option<(Span, Cursor<'a>)>
+        ensures { result ≡ word_at word.now self.now }
+    {
+        let (token, rest) = self.next_token()?;
+        let TokenKind::Name(name) = &token.kind else {
+            return None;
+        };
+        if name.bytes.as_slice() == word.as_bytes() {
+            Some((token.span, rest))
+        } else {
+            None
         }
     }
 
