@@ -3,8 +3,8 @@ ghost use Rattle.std.specs.Prelude.{◌≡◌};
 ghost use Rattle.tb_small.specs.Grammar.{spot_span};
 ghost use Rattle.tb_lower.specs.Lowering.{atom_span, last_atom, from_to, sum_span, value_span, right_span, assign_span};
 
-use tb_small::{Assign, Atom, Right, Spot, Sum, Value};
 use tb_perm::Span;
+use tb_small::{Assign, Atom, Right, Spot, Sum, Value};
 
 /// Where a place stands.
 pub fn span_of_spot(spot: Spot) -> Span

@@ -12,8 +12,8 @@ use crate::spans::span_of_assign;
 use crate::values::lower_ty;
 use sqlite_items::Items;
 use tb_mir::{Line, LocalKind};
-use tb_small::{Assign, Inner, Let, Print, Statement, UnsafeBlock};
 use tb_perm::Span;
+use tb_small::{Assign, Inner, Let, Print, Statement, UnsafeBlock};
 
 impl Lowering {
     /// Lowers a `let`: its value, and then its variable begins to live and takes it.

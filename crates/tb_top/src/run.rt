@@ -18,11 +18,11 @@ use tb_diag::report;
 use tb_eval::Outcome;
 use tb_lower::lower_source;
 use tb_mir::Mir;
-use tb_small::{SmallTree, small};
 use tb_perm::Steps;
 use tb_plain::PlainTree;
 use tb_retag::place;
 use tb_run::Machine;
+use tb_small::{SmallTree, small};
 
 /// The program that runs for a tree: what it is lowered to, with its retags at their places.
 fn program_of(alloc: Global, tree: &SmallTree) -> Result<Mir, Halt>
