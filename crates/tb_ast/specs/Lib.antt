@@ -1,9 +1,9 @@
 pub mod Pieces
 pub mod Types
 pub mod Expressions
-pub mod Stages
 pub mod Files
 pub mod Joined
 pub mod Depth
 pub mod Spans
 pub mod Parts
+pub mod Forms

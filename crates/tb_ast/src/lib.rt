@@ -7,10 +7,8 @@
 #![tactic(auto)]
 
 mod expression;
-mod expression_pieces;
+mod form;
 mod item;
-mod item_pieces;
-mod joining;
 mod leaf;
 mod memory;
 mod nesting;
@@ -19,15 +17,14 @@ mod parts;
 mod piece;
 mod place;
 mod written;
-mod written_pieces;
 
 pub use expression::{Block, Else, Expr, ExprPath, FieldValue, Initializer, PrintText, Stmt};
+pub use form::Form;
 pub use item::{
     Attribute, Bounds, ExternBlock, Field, ForeignFunction, Function, GenericParameter, Generics,
     InnerAttribute, Item, ItemKind, Lifetimes, Meta, Parameter, Repr, ResultType, Struct, Tree,
     Use, UseGroup, WordList,
 };
-pub use joining::{law_apart, yield_of};
 pub use leaf::{
     BoolLiteral, ByteLiteral, CharLiteral, Ident, IntLiteral, Lifetime, Literal, Mark, Path,
     TextLiteral,

@@ -3,9 +3,10 @@ use sqlite_items::Items;
 use std::alloc::Global;
 use std::process::Abort;
 use std::test::Fail;
-use tb_ast::{Field, Ident, Item, ItemKind, Struct, Tree, TypeExpr, depth, yield_of};
+use tb_ast::{Field, Ident, Item, ItemKind, Struct, Tree, TypeExpr, depth};
 use tb_lex::{Name, Token, Tokens, lex};
 use tb_perm::Span;
+use tb_yield::yield_of;
 
 const NOWHERE: Span = Span { lo: 0, hi: 0 };
 

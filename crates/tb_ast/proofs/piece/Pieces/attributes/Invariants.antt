@@ -1,8 +1,0 @@
-use Rattle.std.proofs.Common.{◌≡◌, ◌++◌, drop, map}
-use Rattle.tb_ast.specs.Pieces.{in_order}
-use Rattle.tb_ast.specs.Files.{attribute_row}
-use Rattle.tb_ast.proofs.piece.Pieces.attributes.Given as goal
-
-abbrev pub invariant-loop-attribute : goal.invariant-loop-attribute
-invariant-loop-attribute l =
-    l.self.list.items ++ in_order (map attribute_row (drop l.attribute-index l.attributes)) ≡ l.initial.self.list.items ++ in_order (map attribute_row l.attributes)

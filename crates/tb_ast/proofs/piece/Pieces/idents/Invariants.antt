@@ -1,7 +1,0 @@
-use Rattle.std.proofs.Common.{◌≡◌, ◌++◌, drop}
-use Rattle.tb_ast.specs.Pieces.{named}
-use Rattle.tb_ast.proofs.piece.Pieces.idents.Given as goal
-
-abbrev pub invariant-loop-at : goal.invariant-loop-at
-invariant-loop-at l =
-    l.self.list.items ++ named l.punctuation (drop l.at l.names) (drop l.at l.marks) ≡ l.initial.self.list.items ++ named l.punctuation l.names l.marks

@@ -1,5 +1,0 @@
-use Rattle.tb_ast.proofs.Lists.{put_three}
-use Rattle.tb_ast.proofs.piece.Pieces.inner_attribute.Goals as goal
-
-pub returns : goal.returns
-returns c = put_three c.mark.result _ _ _ _ _ _ _ c.in_ok-inner_front.ensures c.in_ok-word_list.ensures c.mark.ensures

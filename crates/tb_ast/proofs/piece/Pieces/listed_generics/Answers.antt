@@ -1,9 +1,0 @@
-use Rattle.tb_lex.specs.declared.punctuation.Punctuation.TheVariants.{Comma}
-use Rattle.tb_ast.specs.Files.{generic_row}
-use Rattle.tb_ast.proofs.Lists.{put_one}
-use Rattle.tb_ast.proofs.piece.Pieces.listed_generics.Goals as goal
-
-pub loop-at-preserved : goal.loop-at-preserved
-loop-at-preserved c =
-    put_one generic_row Comma c.args.parameters.now c.args.commas.now c.loop-at.at _ c.loop-at-test.true c.index-parameters-at.is
-    _ _ _ _ c.in_ok-generic.ensures c.in_ok-mark_at.ensures c.loop-at.invariant

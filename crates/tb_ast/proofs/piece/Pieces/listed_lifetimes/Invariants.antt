@@ -1,9 +1,0 @@
-use Rattle.std.proofs.Common.{◌≡◌, ◌++◌, drop, map}
-use Rattle.tb_lex.specs.declared.punctuation.Punctuation.TheVariants.{Comma}
-use Rattle.tb_ast.specs.Pieces.{separated}
-use Rattle.tb_ast.specs.Files.{lifetime_row}
-use Rattle.tb_ast.proofs.piece.Pieces.listed_lifetimes.Given as goal
-
-abbrev pub invariant-loop-at : goal.invariant-loop-at
-invariant-loop-at l =
-    l.self.list.items ++ separated Comma (map lifetime_row (drop l.at l.lifetimes)) (drop l.at l.commas) ≡ l.initial.self.list.items ++ separated Comma (map lifetime_row l.lifetimes) l.commas
