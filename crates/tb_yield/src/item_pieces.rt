@@ -9,8 +9,8 @@ use crate::memory::Memory;
 use crate::pieces::Pieces;
 use tb_ast::{
     Attribute, Bounds, ExternBlock, Field, ForeignFunction, Function, GenericParameter, Generics,
-    InnerAttribute, Item, ItemKind, Lifetime, Lifetimes, Meta, Parameter, Repr, ResultType,
-    Struct, Tree, Use, UseGroup, WordList,
+    InnerAttribute, Item, ItemKind, Lifetime, Lifetimes, Meta, Parameter, Repr, ResultType, Struct,
+    Tree, Use, UseGroup, WordList,
 };
 use tb_lex::{Keyword, Punctuation};
 use tb_perm::Span;

@@ -186,8 +186,10 @@ fn shown(rt: &impl Abort, alloc: Global, tokens: &Tokens) -> String {
 #[test]
 fn tokens_again(rt: HostRuntime) {
     let alloc = rt.alloc();
-    let (Ok(read), Ok(given)) = (lex(alloc, TEXT.as_bytes()), yield_of(alloc, &file(&rt, alloc)))
-    else {
+    let (Ok(read), Ok(given)) = (
+        lex(alloc, TEXT.as_bytes()),
+        yield_of(alloc, &file(&rt, alloc)),
+    ) else {
         panic!(rt; "no tokens");
     };
     assert_eq!(rt; given.list.len(), 20);
