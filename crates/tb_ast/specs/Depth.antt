@@ -101,6 +101,21 @@ below (Expr-F.Binary span left operator at right) = max left right
 below (Expr-F.Assign span target equals value) = max target value
 below (Expr-F.AssignOp span target operator at value) = max target value
 
+-- the same of the calls and operators alone, by which the code is proved
+abbrev pub below_operator : Expr-F ℕ ℕ ℕ ℕ ℕ ℕ → ℕ
+below_operator (Expr-F.Field span base dot name) = base
+below_operator (Expr-F.TupleField span base dot index) = base
+below_operator (Expr-F.MethodCall span receiver dot name turbofish opening arguments commas closing) = max (max receiver (turbofish_depth turbofish)) (deepest arguments)
+below_operator (Expr-F.Call span callee opening arguments commas closing) = max (turbofish_depth callee.turbofish) (deepest arguments)
+below_operator (Expr-F.Index span base opening index closing) = max base index
+below_operator (Expr-F.Unary span operator at operand) = operand
+below_operator (Expr-F.Borrow span and kind operand) = operand
+below_operator (Expr-F.Cast span operand at ty) = max operand (type_depth ty)
+below_operator (Expr-F.Binary span left operator at right) = max left right
+below_operator (Expr-F.Assign span target equals value) = max target value
+below_operator (Expr-F.AssignOp span target operator at value) = max target value
+below_operator row = 0
+
 -- a bare block is one node, and not two
 abbrev pub expr_step : Expr-F ℕ ℕ ℕ ℕ ℕ ℕ → ℕ
 expr_step (Expr-F.Block body) = body

@@ -2,7 +2,7 @@
 
 ghost use Rattle.std.specs.Prelude.{◌≡◌, ◌+◌, map};
 ghost use Rattle.std.specs.Option.{option_map};
-ghost use Rattle.tb_ast.specs.Depth.{capped, deepest, or_none, type_depth, argument_depth, arguments_depth, turbofish_depth, note_depth, below, depths_in, expr_depth, else_depth, field_depth, stmt_depth, block_depth, initializer_depth, member_depth, parameter_depth, result_depth, foreign_depth, kind_depth, depth_of};
+ghost use Rattle.tb_ast.specs.Depth.{capped, deepest, or_none, type_depth, argument_depth, arguments_depth, turbofish_depth, note_depth, below, below_operator, depths_in, expr_depth, else_depth, field_depth, stmt_depth, block_depth, initializer_depth, member_depth, parameter_depth, result_depth, foreign_depth, kind_depth, depth_of};
 
 use crate::expression::{Block, Else, Expr, FieldValue, Initializer, Stmt};
 use crate::item::{Field, ForeignFunction, Item, ItemKind, Parameter, ResultType, Tree};
@@ -119,12 +119,7 @@ fn depth_below(e: &Expr) -> u32
         | Expr::Assert {
             condition: part,
             ..
-        }
-        | Expr::Field { base: part, .. }
-        | Expr::TupleField { base: part, .. }
-        | Expr::Unary { operand: part, .. }
-        | Expr::Borrow { operand: part, .. } => expr_depth(part.get()),
-        Expr::Cast { operand, ty, .. } => expr_depth(operand.get()).max(type_depth(ty)),
+        } => expr_depth(part.get()),
         Expr::Block(body) => block_depth(body),
         Expr::Unsafe { body, .. } | Expr::Loop { body, .. } => block_depth(body),
         Expr::While {
@@ -142,6 +137,21 @@ fn depth_below(e: &Expr) -> u32
             .max(otherwise_depth(otherwise)),
         Expr::Return { value, .. } => optional_depth(value),
         Expr::Path(path) => turbofish_depth(&path.turbofish),
+        _ => operands_depth(e),
+    }
+}
+
+/// The greatest depth of what lies in a call or in an operator's expression.
+#[cycle(expressions)]
+fn operands_depth(e: &Expr) -> u32
+    ensures { result ≡ capped (below_operator (depths_in e.now)) }
+{
+    match e {
+        Expr::Field { base: part, .. }
+        | Expr::TupleField { base: part, .. }
+        | Expr::Unary { operand: part, .. }
+        | Expr::Borrow { operand: part, .. } => expr_depth(part.get()),
+        Expr::Cast { operand, ty, .. } => expr_depth(operand.get()).max(type_depth(ty)),
         Expr::Call {
             callee,
             arguments,
