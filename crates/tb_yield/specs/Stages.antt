@@ -63,6 +63,31 @@ expr_middle (Assign span target equals value) = mark punct_of.Eq equals ∷ []
 expr_middle (Computed span target operator at value) = punct (assign_mark operator) at ∷ []
 expr_middle row = []
 
+-- of operators between their operands alone, and of choices and operators
+abbrev pub operands_inside : Expr-F Row Row Row Row Row Row → Row
+operands_inside (MethodCall span receiver dot name turbofish opening arguments commas closing) = receiver ++ (expr_middle (MethodCall span receiver dot name turbofish opening arguments commas closing) ++ separated Comma arguments commas)
+operands_inside (Index span base opening index closing) = base ++ punct OpenBracket opening ∷ index
+operands_inside (Binary span left operator at right) = left ++ mark (binary_mark operator) at ∷ right
+operands_inside (Assign span target equals value) = target ++ mark punct_of.Eq equals ∷ value
+operands_inside (Computed span target operator at value) = target ++ punct (assign_mark operator) at ∷ value
+operands_inside row = []
+
+abbrev pub choices_inside : Expr-F Row Row Row Row Row Row → Row
+choices_inside (While span at condition body) = condition ++ body
+choices_inside (Expr-F.If span at condition body otherwise) = condition ++ (body ++ optional otherwise)
+choices_inside (Return span at value) = optional value
+choices_inside (Field span base dot name) = base
+choices_inside (TupleField span base dot index) = base
+choices_inside (MethodCall span receiver dot name turbofish opening arguments commas closing) = receiver ++ (expr_middle (MethodCall span receiver dot name turbofish opening arguments commas closing) ++ separated Comma arguments commas)
+choices_inside (Index span base opening index closing) = base ++ punct OpenBracket opening ∷ index
+choices_inside (Unary span operator at operand) = operand
+choices_inside (Borrowed span and kind operand) = operand
+choices_inside (Cast span operand at ty) = operand
+choices_inside (Binary span left operator at right) = left ++ mark (binary_mark operator) at ∷ right
+choices_inside (Assign span target equals value) = target ++ mark punct_of.Eq equals ∷ value
+choices_inside (Computed span target operator at value) = target ++ punct (assign_mark operator) at ∷ value
+choices_inside row = []
+
 abbrev pub expr_inside : Expr-F Row Row Row Row Row Row → Row
 expr_inside (Literal value) = []
 expr_inside (Path path) = []

@@ -7,7 +7,7 @@ ghost use Rattle.tb_lex.specs.declared.punctuation.Punctuation.TheVariants as pu
 ghost use Rattle.tb_ast.specs.Pieces.{punct, mark, keyword, ident, number, optional_keyword, optional_mark, text_pieces, separated, in_order, path_pieces};
 ghost use Rattle.tb_ast.specs.Types.{optional, type_pieces, turbofish_pieces, note_pieces};
 ghost use Rattle.tb_ast.specs.Expressions.{unary_mark, borrow_kind, binary_mark, assign_mark, path_row, print_word, print_text, macro_front, expr_layer, else_pieces, expr_pieces, field_pieces, stmt_pieces, block_pieces, initializer_pieces};
-ghost use Rattle.tb_yield.specs.Stages.{word_front, expr_front, expr_middle, expr_inside, expr_back};
+ghost use Rattle.tb_yield.specs.Stages.{word_front, expr_front, expr_middle, operands_inside, choices_inside, expr_inside, expr_back};
 
 use crate::memory::Memory;
 use crate::pieces::Pieces;
@@ -408,14 +408,19 @@ impl Pieces {
             | Expr::Assert {
                 condition: part,
                 ..
-            }
-            | Expr::Field { base: part, .. }
-            | Expr::TupleField { base: part, .. }
-            | Expr::Unary { operand: part, .. }
-            | Expr::Borrow { operand: part, .. }
-            | Expr::Cast { operand: part, .. } => self.expr(part.get()),
+            } => self.expr(part.get()),
             Expr::Block(body) => self.block(body),
             Expr::Unsafe { body, .. } | Expr::Loop { body, .. } => self.block(body),
+            _ => self.choices_inside(e),
+        }
+    }
+
+    /// Puts down what lies in a `while`, an `if` or a `return`, and the operands of an operator.
+    #[cycle(expressions)]
+    fn choices_inside(&mut self, e: &Expr) -> Result<(), Memory>
+        ensures { OnOk result (self.new.list.items ≡ self.old.list.items ++ choices_inside (expr_layer e.now)) }
+    {
+        match e {
             Expr::While {
                 condition,
                 body,
@@ -435,6 +440,21 @@ impl Pieces {
                 self.otherwise(otherwise)
             }
             Expr::Return { value, .. } => self.optional_expr(value),
+            Expr::Field { base: part, .. }
+            | Expr::TupleField { base: part, .. }
+            | Expr::Unary { operand: part, .. }
+            | Expr::Borrow { operand: part, .. }
+            | Expr::Cast { operand: part, .. } => self.expr(part.get()),
+            _ => self.operands_inside(e),
+        }
+    }
+
+    /// Puts down the operands of an operator that stands between them.
+    #[cycle(expressions)]
+    fn operands_inside(&mut self, e: &Expr) -> Result<(), Memory>
+        ensures { OnOk result (self.new.list.items ≡ self.old.list.items ++ operands_inside (expr_layer e.now)) }
+    {
+        match e {
             Expr::MethodCall {
                 receiver,
                 arguments,
