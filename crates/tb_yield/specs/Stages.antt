@@ -32,28 +32,10 @@ expr_front (Paren span opening inner closing) = punct OpenParen opening ∷ []
 expr_front (Tuple span opening parts commas closing) = punct OpenParen opening ∷ []
 expr_front (Array span opening elements commas closing) = punct OpenBracket opening ∷ []
 expr_front (Repeat span opening element semicolon length closing) = punct OpenBracket opening ∷ []
-expr_front (Expr-F.Block body) = []
-expr_front (Unsafe span at body) = keyword keyword_of.Unsafe at ∷ []
-expr_front (While span at condition body) = keyword keyword_of.While at ∷ []
-expr_front (Loop span at body) = keyword keyword_of.Loop at ∷ []
-expr_front (Expr-F.If span at condition body otherwise) = keyword keyword_of.If at ∷ []
-expr_front (Return span at value) = keyword keyword_of.Return at ∷ []
-expr_front (Break span) = keyword keyword_of.Break span ∷ []
-expr_front (Continue span) = keyword keyword_of.Continue span ∷ []
-expr_front (Print span name newline bang opening text arguments commas closing) = macro_front (print_word newline) name bang opening ++ print_text text
-expr_front (Panic span name bang opening text closing) = macro_front (codes "panic") name bang opening ++ (text_pieces text ++ punct CloseParen closing ∷ [])
-expr_front (Assert span name bang opening condition comma closing) = macro_front (codes "assert") name bang opening
-expr_front (Field span base dot name) = []
-expr_front (TupleField span base dot index) = []
-expr_front (MethodCall span receiver dot name turbofish opening arguments commas closing) = []
 expr_front (Call span callee opening arguments commas closing) = path_row callee ++ punct OpenParen opening ∷ []
-expr_front (Index span base opening index closing) = []
 expr_front (Unary span operator at operand) = punct (unary_mark operator) at ∷ []
 expr_front (Borrowed span and kind operand) = mark punct_of.And and ∷ borrow_kind kind
-expr_front (Cast span operand at ty) = []
-expr_front (Binary span left operator at right) = []
-expr_front (Assign span target equals value) = []
-expr_front (Computed span target operator at value) = []
+expr_front row = word_front row
 
 abbrev pub expr_middle : Expr-F Row Row Row Row Row Row → Row
 expr_middle (MethodCall span receiver dot name turbofish opening arguments commas closing) = punct Dot dot ∷ ident name ∷ (turbofish_pieces turbofish ++ punct OpenParen opening ∷ [])
@@ -63,7 +45,7 @@ expr_middle (Assign span target equals value) = mark punct_of.Eq equals ∷ []
 expr_middle (Computed span target operator at value) = punct (assign_mark operator) at ∷ []
 expr_middle row = []
 
--- of operators between their operands alone, and of choices and operators
+-- the expressions and blocks in an expression, and what stands between them: first where an operator stands between two, or a method between a receiver and its arguments
 abbrev pub operands_inside : Expr-F Row Row Row Row Row Row → Row
 operands_inside (MethodCall span receiver dot name turbofish opening arguments commas closing) = receiver ++ (expr_middle (MethodCall span receiver dot name turbofish opening arguments commas closing) ++ separated Comma arguments commas)
 operands_inside (Index span base opening index closing) = base ++ punct OpenBracket opening ∷ index
@@ -78,47 +60,24 @@ choices_inside (Expr-F.If span at condition body otherwise) = condition ++ (body
 choices_inside (Return span at value) = optional value
 choices_inside (Field span base dot name) = base
 choices_inside (TupleField span base dot index) = base
-choices_inside (MethodCall span receiver dot name turbofish opening arguments commas closing) = receiver ++ (expr_middle (MethodCall span receiver dot name turbofish opening arguments commas closing) ++ separated Comma arguments commas)
-choices_inside (Index span base opening index closing) = base ++ punct OpenBracket opening ∷ index
 choices_inside (Unary span operator at operand) = operand
 choices_inside (Borrowed span and kind operand) = operand
 choices_inside (Cast span operand at ty) = operand
-choices_inside (Binary span left operator at right) = left ++ mark (binary_mark operator) at ∷ right
-choices_inside (Assign span target equals value) = target ++ mark punct_of.Eq equals ∷ value
-choices_inside (Computed span target operator at value) = target ++ punct (assign_mark operator) at ∷ value
-choices_inside row = []
+choices_inside row = operands_inside row
 
 abbrev pub expr_inside : Expr-F Row Row Row Row Row Row → Row
-expr_inside (Literal value) = []
-expr_inside (Path path) = []
 expr_inside (StructLiteral span path opening fields commas closing) = separated Comma fields commas
-expr_inside (Unit span opening closing) = []
 expr_inside (Paren span opening inner closing) = inner
 expr_inside (Tuple span opening parts commas closing) = separated Comma parts commas
 expr_inside (Array span opening elements commas closing) = separated Comma elements commas
 expr_inside (Repeat span opening element semicolon length closing) = element
 expr_inside (Expr-F.Block body) = body
 expr_inside (Unsafe span at body) = body
-expr_inside (While span at condition body) = condition ++ body
 expr_inside (Loop span at body) = body
-expr_inside (Expr-F.If span at condition body otherwise) = condition ++ (body ++ optional otherwise)
-expr_inside (Return span at value) = optional value
-expr_inside (Break span) = []
-expr_inside (Continue span) = []
 expr_inside (Print span name newline bang opening text arguments commas closing) = separated Comma arguments commas
-expr_inside (Panic span name bang opening text closing) = []
 expr_inside (Assert span name bang opening condition comma closing) = condition
-expr_inside (Field span base dot name) = base
-expr_inside (TupleField span base dot index) = base
-expr_inside (MethodCall span receiver dot name turbofish opening arguments commas closing) = receiver ++ (expr_middle (MethodCall span receiver dot name turbofish opening arguments commas closing) ++ separated Comma arguments commas)
 expr_inside (Call span callee opening arguments commas closing) = separated Comma arguments commas
-expr_inside (Index span base opening index closing) = base ++ punct OpenBracket opening ∷ index
-expr_inside (Unary span operator at operand) = operand
-expr_inside (Borrowed span and kind operand) = operand
-expr_inside (Cast span operand at ty) = operand
-expr_inside (Binary span left operator at right) = left ++ mark (binary_mark operator) at ∷ right
-expr_inside (Assign span target equals value) = target ++ mark punct_of.Eq equals ∷ value
-expr_inside (Computed span target operator at value) = target ++ punct (assign_mark operator) at ∷ value
+expr_inside row = choices_inside row
 
 abbrev pub expr_back : Expr-F Row Row Row Row Row Row → Row
 expr_back (StructLiteral span path opening fields commas closing) = punct CloseBrace closing ∷ []

@@ -1,197 +1,133 @@
 //! A small file, made by hand.
 
-use crate::yield_of;
+use crate::{Memory, yield_of};
 use sqlite_items::{Boxed, Items};
 use std::alloc::Global;
-use std::process::Abort;
-use tb_ast::{
-    Block, Borrow, Expr, ExprPath, Function, Ident, Initializer, Item, ItemKind, Mark, Path, Stmt,
-    Tree, TypeExpr, TypeNote, Use,
-};
-use tb_lex::{Name, Tokens, lex};
+use std::test::Fail;
+use tb_ast::*;
+use tb_lex::{Name, lex};
 use tb_perm::Span;
-
-/// The text of the file.
-const TEXT: &str = "use a::b; fn f() { let x: &&T = &&y; }";
 
 fn at(lo: u32, hi: u32) -> Span {
     Span { lo, hi }
 }
 
-fn mark(span: Span, glued: bool) -> Mark {
-    Mark { span, glued }
+fn ident(alloc: Global, byte: u8, span: Span) -> Result<Ident, Memory> {
+    let bytes = Items::from_vec(vec![in alloc; byte]?);
+    let name = Name { bytes };
+    Ok(Ident { name, span })
 }
 
-fn boxed<T: Drop>(rt: &impl Abort, alloc: Global, value: T) -> Boxed<T> {
-    match Boxed::new(alloc, value) {
-        Ok(boxed) => boxed,
-        Err(_) => panic!(rt; "memory"),
-    }
-}
-
-fn push<T: Drop>(rt: &impl Abort, list: &mut Items<T>, item: T) {
-    assert!(rt; list.push(item).is_ok());
-}
-
-fn one<T: Drop>(rt: &impl Abort, alloc: Global, item: T) -> Items<T> {
-    let mut list = Items::new(alloc);
-    push(rt, &mut list, item);
-    list
-}
-
-fn ident(rt: &impl Abort, alloc: Global, byte: u8, span: Span) -> Ident {
-    let bytes = one(rt, alloc, byte);
-    Ident {
-        name: Name { bytes },
+fn path(alloc: Global, byte: u8, span: Span) -> Result<Path, Memory> {
+    Ok(Path {
         span,
-    }
-}
-
-/// A path of one name.
-fn path(rt: &impl Abort, alloc: Global, byte: u8, span: Span) -> Path {
-    Path {
-        span,
-        segments: one(rt, alloc, ident(rt, alloc, byte, span)),
+        segments: Items::from_vec(vec![in alloc; ident(alloc, byte, span)?]?),
         separators: Items::new(alloc),
-    }
-}
-
-/// `use a::b;`
-fn use_item(rt: &impl Abort, alloc: Global) -> ItemKind {
-    let mut segments = one(rt, alloc, ident(rt, alloc, b'a', at(4, 5)));
-    push(rt, &mut segments, ident(rt, alloc, b'b', at(7, 8)));
-    ItemKind::Use(Use {
-        use_keyword: at(0, 3),
-        span: at(4, 8),
-        path: Path {
-            span: at(4, 8),
-            segments,
-            separators: one(rt, alloc, at(5, 7)),
-        },
-        group: None,
-        semicolon: at(8, 9),
     })
 }
 
-fn reference(rt: &impl Abort, alloc: Global, and: Mark, target: TypeExpr) -> TypeExpr {
-    TypeExpr::Reference {
-        span: at(and.span.lo, 29),
-        and,
-        lifetime: None,
-        mut_keyword: None,
-        target: boxed(rt, alloc, target),
-    }
+/// `use a::b;`
+fn use_item(alloc: Global) -> Result<ItemKind, Memory> {
+    let mut path = path(alloc, b'a', at(4, 5))?;
+    path.separators.push(at(5, 7))?;
+    path.segments.push(ident(alloc, b'b', at(7, 8))?)?;
+    Ok(ItemKind::Use(Use {
+        use_keyword: at(0, 3),
+        span: at(4, 8),
+        path,
+        group: None,
+        semicolon: at(8, 9),
+    }))
 }
 
-/// `: &&T`, whose second `&` is one token with the first.
-fn note(rt: &impl Abort, alloc: Global) -> TypeNote {
-    let target = TypeExpr::Path {
+/// `let x: &&T = &&y;`, where each second `&` is one token with the first.
+fn statement(alloc: Global) -> Result<Stmt, Memory> {
+    let mut ty = TypeExpr::Path {
         span: at(28, 29),
-        path: path(rt, alloc, b'T', at(28, 29)),
+        path: path(alloc, b'T', at(28, 29))?,
         arguments: None,
     };
-    let inner = reference(rt, alloc, mark(at(27, 28), true), target);
-    TypeNote {
-        colon: at(24, 25),
-        ty: reference(rt, alloc, mark(at(26, 27), false), inner),
+    for (span, glued) in [(at(27, 28), true), (at(26, 27), false)] {
+        ty = TypeExpr::Reference {
+            span,
+            and: Mark { span, glued },
+            lifetime: None,
+            mut_keyword: None,
+            target: Boxed::new(alloc, ty)?,
+        };
     }
-}
-
-fn borrow(rt: &impl Abort, alloc: Global, and: Mark, operand: Expr) -> Expr {
-    Expr::Borrow {
-        span: at(and.span.lo, 35),
-        and,
-        kind: Borrow::Shared,
-        operand: boxed(rt, alloc, operand),
-    }
-}
-
-/// `= &&y`, whose second `&` is one token with the first.
-fn initializer(rt: &impl Abort, alloc: Global) -> Initializer {
-    let operand = Expr::Path(ExprPath {
+    let mut value = Expr::Path(ExprPath {
         span: at(34, 35),
-        path: path(rt, alloc, b'y', at(34, 35)),
+        path: path(alloc, b'y', at(34, 35))?,
         turbofish: None,
     });
-    let inner = borrow(rt, alloc, mark(at(33, 34), true), operand);
-    Initializer {
-        equals: mark(at(30, 31), false),
-        value: borrow(rt, alloc, mark(at(32, 33), false), inner),
+    for (span, glued) in [(at(33, 34), true), (at(32, 33), false)] {
+        value = Expr::Borrow {
+            span,
+            and: Mark { span, glued },
+            kind: Borrow::Shared,
+            operand: Boxed::new(alloc, value)?,
+        };
     }
-}
-
-/// `let x: &&T = &&y;`
-fn statement(rt: &impl Abort, alloc: Global) -> Stmt {
-    Stmt::Let {
+    let colon = at(24, 25);
+    let (span, glued) = (at(30, 31), false);
+    let equals = Mark { span, glued };
+    Ok(Stmt::Let {
         span: at(19, 36),
         let_keyword: at(19, 22),
         mut_keyword: None,
-        name: ident(rt, alloc, b'x', at(23, 24)),
-        ty: Some(note(rt, alloc)),
-        value: Some(initializer(rt, alloc)),
+        name: ident(alloc, b'x', at(23, 24))?,
+        ty: Some(TypeNote { colon, ty }),
+        value: Some(Initializer { equals, value }),
         semicolon: at(35, 36),
-    }
+    })
 }
 
 /// `fn f() { .. }`
-fn function(rt: &impl Abort, alloc: Global) -> ItemKind {
-    let body = Block {
-        span: at(17, 38),
-        opening: at(17, 18),
-        statements: one(rt, alloc, statement(rt, alloc)),
-        last: None,
-        closing: at(37, 38),
-    };
-    ItemKind::Function(Function {
+fn function(alloc: Global) -> Result<ItemKind, Memory> {
+    Ok(ItemKind::Function(Function {
         span: at(10, 38),
         unsafe_keyword: None,
         fn_keyword: at(10, 12),
-        name: ident(rt, alloc, b'f', at(13, 14)),
+        name: ident(alloc, b'f', at(13, 14))?,
         generics: None,
         opening: at(14, 15),
         parameters: Items::new(alloc),
         commas: Items::new(alloc),
         closing: at(15, 16),
         result: None,
-        body,
-    })
+        body: Block {
+            span: at(17, 38),
+            opening: at(17, 18),
+            statements: Items::from_vec(vec![in alloc; statement(alloc)?]?),
+            last: None,
+            closing: at(37, 38),
+        },
+    }))
 }
 
-fn item(alloc: Global, span: Span, kind: ItemKind) -> Item {
-    Item {
-        span,
-        attributes: Items::new(alloc),
-        kind,
+#[test]
+fn tokens_again(rt: HostRuntime) -> Result<(), Fail> {
+    let alloc = rt.alloc();
+    let mut items = Items::new(alloc);
+    for kind in [use_item(alloc)?, function(alloc)?] {
+        items.push(Item {
+            span: at(0, 0),
+            attributes: Items::new(alloc),
+            kind,
+        })?;
     }
-}
-
-fn file(rt: &impl Abort, alloc: Global) -> Tree {
-    let mut items = one(rt, alloc, item(alloc, at(0, 9), use_item(rt, alloc)));
-    push(rt, &mut items, item(alloc, at(10, 38), function(rt, alloc)));
-    Tree {
+    let tree = Tree {
         attributes: Items::new(alloc),
         items,
         end: 38,
-    }
-}
-
-fn shown(rt: &impl Abort, alloc: Global, tokens: &Tokens) -> String {
-    match format!(in alloc; "{tokens:?}") {
-        Ok(text) => text,
-        Err(_) => panic!(rt; "memory"),
-    }
-}
-
-/// The tokens of the file are those of its text.
-#[test]
-fn tokens_again(rt: HostRuntime) {
-    let alloc = rt.alloc();
-    let (Ok(read), Ok(given)) = (
-        lex(alloc, TEXT.as_bytes()),
-        yield_of(alloc, &file(&rt, alloc)),
-    ) else {
-        panic!(rt; "no tokens");
     };
-    assert_eq!(rt; given.list.len(), 20);
-    assert!(rt; shown(&rt, alloc, &read).as_bytes() == shown(&rt, alloc, &given).as_bytes());
+    let read = lex(alloc, b"use a::b; fn f() { let x: &&T = &&y; }")?;
+    let given = yield_of(alloc, &tree)?;
+    let (read, given) = (
+        format!(in alloc; "{read:?}")?,
+        format!(in alloc; "{given:?}")?,
+    );
+    assert!(rt; read.as_bytes() == given.as_bytes());
+    Ok(())
 }
