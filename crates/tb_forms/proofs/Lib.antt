@@ -1,0 +1,11 @@
+pub mod Counts
+pub mod Firsts
+pub mod Begins
+pub mod Paths
+pub mod MacroFronts
+pub mod Borrows
+pub mod FrontTakes
+pub mod FrontAgain
+pub mod StepTakes
+pub mod StepAgain
+pub mod Shorter

@@ -1,0 +1,24 @@
+//! That what is read stands there, and that what stands there is read.
+
+ghost use Rattle.std.specs.Prelude.{◌≡◌, ℕ, Bool, true, Option, Some};
+ghost use Rattle.tb_syntax.specs.State.{State};
+ghost use Rattle.tb_forms.specs.declared.front.Front.{Front};
+ghost use Rattle.tb_forms.specs.declared.step.Step.{Step};
+ghost use Rattle.tb_forms.specs.Beginnings.{begins_expr};
+ghost use Rattle.tb_forms.specs.Levels.{level_at};
+ghost use Rattle.tb_forms.specs.Fronts.{front_at, IsFrontAt};
+ghost use Rattle.tb_forms.specs.Steps.{step_at, step_level, IsStepAt};
+
+/// What operands begin with.
+pub fn law_fronts()
+    ensures takes { (depth : ℕ) (bare : Bool) (state : State) (front : Front) (rest : State) → front_at depth bare state ≡ Some (front, rest) → IsFrontAt depth bare state front rest }
+    ensures again { (depth : ℕ) (bare : Bool) (state : State) (front : Front) (rest : State) → IsFrontAt depth bare state front rest → front_at depth bare state ≡ Some (front, rest) }
+    ensures begins { (depth : ℕ) (bare : Bool) (state : State) (front : Front) (rest : State) → IsFrontAt depth bare state front rest → begins_expr state ≡ true }
+{}
+
+/// How expressions go on.
+pub fn law_steps()
+    ensures takes { (depth : ℕ) (state : State) (step : Step) (rest : State) → step_at depth state ≡ Some (step, rest) → IsStepAt depth state step rest }
+    ensures again { (depth : ℕ) (state : State) (step : Step) (rest : State) → IsStepAt depth state step rest → step_at depth state ≡ Some (step, rest) }
+    ensures levels { (depth : ℕ) (state : State) (step : Step) (rest : State) → IsStepAt depth state step rest → level_at state ≡ Some (step_level step) }
+{}
