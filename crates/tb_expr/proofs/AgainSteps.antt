@@ -1,0 +1,179 @@
+-- How an expression that stands there is read on, step by step, as far as it goes.
+use Rattle.std.proofs.Common.{◌≡◌, ℕ, zero, suc, ◌+◌, ◌≤◌, Bool, true, false, List, ◌∷◌, map, Option, Some, refl, ap, ◌∙◌, arith}
+use Rattle.std.specs.Prelude.{max}
+use Rattle.std.proofs.lemmas.Bool.{le-leb}
+use Rattle.tb_perm.specs.declared.span.Span.{Span}
+use Rattle.tb_lex.specs.declared.punctuation.Punctuation.TheVariants.{OpenBracket, CloseParen, CloseBracket, Eq}
+use Rattle.tb_ast.specs.declared.leaf.Mark.{Mark}
+use Rattle.tb_ast.specs.declared.leaf.Ident.{Ident}
+use Rattle.tb_ast.specs.declared.leaf.IntLiteral.{IntLiteral}
+use Rattle.tb_ast.specs.declared.operator.BinaryOp.{BinaryOp}
+use Rattle.tb_ast.specs.declared.operator.BinaryOp.TheVariants as binary
+use Rattle.tb_ast.specs.declared.operator.AssignOp.{AssignOp}
+use Rattle.tb_ast.specs.declared.written.TypeExpr.{TypeExpr}
+use Rattle.tb_ast.specs.declared.written.Turbofish.{Turbofish}
+use Rattle.tb_ast.specs.declared.expression.Expr.{Expr}
+use Rattle.tb_ast.specs.Pieces.{punct, mark}
+use Rattle.tb_ast.specs.Expressions.{binary_mark, assign_mark}
+use Rattle.tb_ast.specs.Depth.{deepest, expr_depth, type_depth, turbofish_depth}
+use Rattle.tb_syntax.specs.Reading.{◌>>=◌}
+use Rattle.tb_syntax.specs.State.{State, Begins}
+use Rattle.tb_syntax.proofs.Marks.{punct-again}
+use Rattle.tb_forms.specs.declared.step.Step.{Step}
+use Rattle.tb_forms.specs.declared.step.Step.TheVariants as step
+use Rattle.tb_forms.specs.Levels.{binary_level, left_level, right_level, level_of, is_within, continues}
+use Rattle.tb_forms.specs.Trees.{field_of, tuple_field_of, method_call, index_of, cast_to, binary_with, assign_to, compute_to}
+use Rattle.tb_forms.specs.Steps.{step_level, operand_level, IsStepAt}
+use Rattle.tb_forms.specs.Closings.{method_call_at, index_at}
+use Rattle.tb_expr.specs.Exprs.{operand_at, behind_step, further_at, longest_at, expr_at}
+use Rattle.tb_forms.proofs.StepAgain.{step-again}
+use Rattle.tb_forms.proofs.Begins.{step-levels, continues-nothing, begins-no-paren}
+use Rattle.tb_expr.proofs.Within.{step-within}
+use Rattle.tb_expr.proofs.AgainDepths.{expr-roll, expr-some, level-roll}
+use Rattle.tb_expr.proofs.AgainReads.{Whole, Reaches, Operand, Blocky, Exprs}
+use Rattle.tb_expr.proofs.AgainLists.{exprs-listed}
+
+-- One round.
+
+further-read : (depth : ℕ) (bare : Bool) (left : Expr) (a : State) (s : Step) (b : State) (y : Option (Expr × State)) → IsStepAt depth a s b → level_of left ≤ operand_level s
+    → behind_step depth (expr_at depth) bare left s b ≡ y → further_at depth (expr_at depth) bare left a ≡ y
+unfolding further_at
+further-read depth bare left a s b y h tight e = rw (step-again depth a s b h) (rw (le-leb (level_of left) (operand_level s) tight) e)
+
+goes-on : (depth : ℕ) (most : ℕ) (a : State) (s : Step) (b : State) → IsStepAt depth a s b → step_level s ≤ most → continues most a ≡ true
+unfolding continues
+goes-on depth most a s b h fits = ap (is_within most) (step-levels depth a s b h) ∙ le-leb (step_level s) most fits
+
+longest-more : (depth : ℕ) (bare : Bool) (most fuel : ℕ) (left : Expr) (a : State) (e : Expr) (rest : State) → continues most a ≡ true → further_at depth (expr_at depth) bare left a ≡ Some (e, rest)
+    → longest_at depth (expr_at depth) bare most (suc fuel) left a ≡ longest_at depth (expr_at depth) bare most fuel e rest
+unfolding longest_at
+longest-more depth bare most fuel left a e rest on read = rw on (rw read refl)
+
+longest-stops : (depth : ℕ) (bare : Bool) (most fuel : ℕ) (left : Expr) (a : State) → continues most a ≡ false → longest_at depth (expr_at depth) bare most (suc fuel) left a ≡ Some (left, a)
+unfolding longest_at
+longest-stops depth bare most fuel left a stop = rw stop refl
+
+-- From an operand on, and up to where it stops.
+
+operand-first : (depth : ℕ) (bare : Bool) (most : ℕ) (state : State) (e : Expr) (rest : State) → operand_at depth (expr_at depth) bare state ≡ Some (e, rest)
+    → expr_at (suc depth) bare most state ≡ longest_at depth (expr_at depth) bare most (suc depth) e rest
+unfolding expr_at
+operand-first depth bare most state e rest read = rw read refl
+
+pub operand-reaches : (bare : Bool) (state : State) (e : Expr) (rest : State) → Operand bare state e rest → Reaches bare state e rest
+operand-reaches bare state e rest operand depth bound most fits =
+    let some = expr-some e in
+    (suc depth, omega arith, operand-first depth bare most state e rest (operand depth bound))
+
+pub whole-reached : (bare : Bool) (most : ℕ) (state : State) (e : Expr) (rest : State) → level_of e ≤ most → continues most rest ≡ false → Reaches bare state e rest → Whole bare most state e rest
+whole-reached bare most state e rest fits stop reaches zero bound = let some = expr-some e in absurd (omega arith)
+whole-reached bare most state e rest fits stop reaches (suc depth) bound = let there = reaches depth bound most fits in from there.0 there.1 there.2 where
+  from : (fuel : ℕ) → suc (suc depth) ≤ fuel + expr_depth e → expr_at (suc depth) bare most state ≡ longest_at depth (expr_at depth) bare most fuel e rest → expr_at (suc depth) bare most state ≡ Some (e, rest)
+  from zero few read = absurd (omega arith)
+  from (suc fuel) few read = read ∙ longest-stops depth bare most fuel e rest stop
+
+-- an operand alone
+pub blocky-whole : (state : State) (e : Expr) (rest : State) → Blocky state e rest → Whole true 0 state e rest
+blocky-whole state e rest blocky zero bound = let some = expr-some e in absurd (omega arith)
+blocky-whole state e rest blocky (suc depth) bound =
+    operand-first depth true 0 state e rest (blocky true depth bound) ∙ longest-stops depth true 0 depth e rest (continues-nothing rest)
+
+-- one step further
+step-reaches : (bare : Bool) (state : State) (left : Expr) (a : State) (s : Step) (b : State) (e : Expr) (rest : State)
+    → level_of left ≤ operand_level s → operand_level s ≤ step_level s → level_of e ≡ step_level s → suc (expr_depth left) ≤ expr_depth e → Reaches bare state left a
+    → ((depth : ℕ) → expr_depth e ≤ suc depth → IsStepAt depth a s b × (behind_step depth (expr_at depth) bare left s b ≡ Some (e, rest)))
+    → Reaches bare state e rest
+step-reaches bare state left a s b e rest tight looser level deeper reaches next depth bound most fits =
+    let there = reaches depth (omega arith) most (omega arith) in
+    from there.0 there.1 there.2 where
+      from : (fuel : ℕ) → suc (suc depth) ≤ fuel + expr_depth left → expr_at (suc depth) bare most state ≡ longest_at depth (expr_at depth) bare most fuel left a
+          → (more : ℕ) × (suc (suc depth) ≤ more + expr_depth e) × (expr_at (suc depth) bare most state ≡ longest_at depth (expr_at depth) bare most more e rest)
+      from zero few read = absurd (omega arith)
+      from (suc fuel) few read =
+          let go = next depth bound in
+          let further = further-read depth bare left a s b _ go.0 tight go.1 in
+          let on = goes-on depth most a s b go.0 (omega arith) in
+          (fuel, omega arith, read ∙ longest-more depth bare most fuel left a e rest on further)
+
+-- The steps.
+
+pub field-reaches : (bare : Bool) (state : State) (base : Expr) (dot : Span) (name : Ident) (a rest : State) → level_of base ≤ 1 → IsStepAt 0 a (step.Field dot name) rest
+    → Reaches bare state base a → Reaches bare state (field_of base dot name) rest
+unfolding behind_step
+field-reaches bare state base dot name a rest tight h reaches =
+    let same : expr_depth (field_of base dot name) ≡ expr_depth base + 1 = expr-roll _ in
+    step-reaches bare state base a (step.Field dot name) rest (field_of base dot name) rest tight (omega arith) (level-roll _) (omega arith) reaches (λ depth bound. (h, refl))
+
+pub tuple-field-reaches : (bare : Bool) (state : State) (base : Expr) (dot : Span) (index : IntLiteral) (a rest : State) → level_of base ≤ 1 → IsStepAt 0 a (step.TupleField dot index) rest
+    → Reaches bare state base a → Reaches bare state (tuple_field_of base dot index) rest
+unfolding behind_step
+tuple-field-reaches bare state base dot index a rest tight h reaches =
+    let same : expr_depth (tuple_field_of base dot index) ≡ expr_depth base + 1 = expr-roll _ in
+    step-reaches bare state base a (step.TupleField dot index) rest (tuple_field_of base dot index) rest tight (omega arith) (level-roll _) (omega arith) reaches (λ depth bound. (h, refl))
+
+pub method-reaches : (bare : Bool) (state : State) (receiver : Expr) (n : ℕ) (dot : Span) (name : Ident) (turbofish : Option Turbofish) (opening : Span) (arguments : List Expr) (commas : List Span) (closing : Span)
+    (a b c rest : State) → level_of receiver ≤ 1 → IsStepAt n a (step.MethodCall dot name turbofish opening) b → Begins (punct CloseParen closing) c rest
+    → Reaches bare state receiver a → Exprs CloseParen b arguments commas c → Reaches bare state (method_call receiver dot name turbofish opening arguments commas closing) rest
+unfolding behind_step method_call_at
+method-reaches bare state receiver n dot name turbofish opening arguments commas closing a b c rest tight h last reaches inside =
+    let e = method_call receiver dot name turbofish opening arguments commas closing in
+    let same : expr_depth e ≡ max (max (expr_depth receiver) (turbofish_depth turbofish)) (deepest (map expr_depth arguments)) + 1 = expr-roll _ in
+    step-reaches bare state receiver a (step.MethodCall dot name turbofish opening) b e rest tight (omega arith) (level-roll _) (omega arith) reaches
+    (λ depth bound. (
+      step-within n depth a (step.MethodCall dot name turbofish opening) b h (omega arith),
+      rw (exprs-listed CloseParen b arguments commas c inside begins-no-paren depth (omega arith)) (rw (punct-again CloseParen c closing rest last) refl),
+    ))
+
+pub index-reaches : (bare : Bool) (state : State) (base : Expr) (opening : Span) (index : Expr) (closing : Span) (a b c rest : State) → level_of base ≤ 1 → Begins (punct OpenBracket opening) a b
+    → Begins (punct CloseBracket closing) c rest → Reaches bare state base a → Whole true 13 b index c → Reaches bare state (index_of base opening index closing) rest
+unfolding behind_step index_at
+index-reaches bare state base opening index closing a b c rest tight h last reaches inside =
+    let e = index_of base opening index closing in
+    let same : expr_depth e ≡ max (expr_depth base) (expr_depth index) + 1 = expr-roll _ in
+    step-reaches bare state base a (step.Index opening) b e rest tight (omega arith) (level-roll _) (omega arith) reaches
+    (λ depth bound. (h, rw (inside depth (omega arith)) (rw (punct-again CloseBracket c closing rest last) refl)))
+
+pub cast-reaches : (bare : Bool) (state : State) (operand : Expr) (n : ℕ) (at : Span) (ty : TypeExpr) (a rest : State) → level_of operand ≤ 3 → IsStepAt n a (step.Cast at ty) rest
+    → Reaches bare state operand a → Reaches bare state (cast_to operand at ty) rest
+unfolding behind_step
+cast-reaches bare state operand n at ty a rest tight h reaches =
+    let e = cast_to operand at ty in
+    let same : expr_depth e ≡ max (expr_depth operand) (type_depth ty) + 1 = expr-roll _ in
+    step-reaches bare state operand a (step.Cast at ty) rest e rest tight (omega arith) (level-roll _) (omega arith) reaches
+    (λ depth bound. (step-within n depth a (step.Cast at ty) rest h (omega arith), refl))
+
+left-tight : (operator : BinaryOp) → left_level operator ≤ binary_level operator
+left-tight binary.Eq = omega arith
+left-tight binary.Ne = omega arith
+left-tight binary.Lt = omega arith
+left-tight binary.Gt = omega arith
+left-tight binary.Le = omega arith
+left-tight binary.Ge = omega arith
+left-tight operator = omega arith
+
+pub binary-reaches : (bare : Bool) (state : State) (left : Expr) (operator : BinaryOp) (at : Mark) (right : Expr) (a b rest : State) → level_of left ≤ left_level operator
+    → a ≡ mark (binary_mark operator) at ∷ b → Reaches bare state left a → Whole bare (right_level operator) b right rest → Reaches bare state (binary_with left operator at right) rest
+unfolding behind_step
+binary-reaches bare state left operator at right a b rest tight h reaches inside =
+    let e = binary_with left operator at right in
+    let same : expr_depth e ≡ max (expr_depth left) (expr_depth right) + 1 = expr-roll _ in
+    step-reaches bare state left a (step.Binary operator at) b e rest tight (left-tight operator) (level-roll _) (omega arith) reaches
+    (λ depth bound. (h, rw (inside depth (omega arith)) refl))
+
+pub assign-reaches : (bare : Bool) (state : State) (target : Expr) (equals : Mark) (value : Expr) (a b rest : State) → level_of target ≤ 12 → a ≡ mark Eq equals ∷ b
+    → Reaches bare state target a → Whole bare 13 b value rest → Reaches bare state (assign_to target equals value) rest
+unfolding behind_step
+assign-reaches bare state target equals value a b rest tight h reaches inside =
+    let e = assign_to target equals value in
+    let same : expr_depth e ≡ max (expr_depth target) (expr_depth value) + 1 = expr-roll _ in
+    step-reaches bare state target a (step.Assign equals) b e rest tight (omega arith) (level-roll _) (omega arith) reaches
+    (λ depth bound. (h, rw (inside depth (omega arith)) refl))
+
+pub compute-reaches : (bare : Bool) (state : State) (target : Expr) (operator : AssignOp) (at : Span) (value : Expr) (a b rest : State) → level_of target ≤ 12
+    → a ≡ punct (assign_mark operator) at ∷ b → Reaches bare state target a → Whole bare 13 b value rest → Reaches bare state (compute_to target operator at value) rest
+unfolding behind_step
+compute-reaches bare state target operator at value a b rest tight h reaches inside =
+    let e = compute_to target operator at value in
+    let same : expr_depth e ≡ max (expr_depth target) (expr_depth value) + 1 = expr-roll _ in
+    step-reaches bare state target a (step.AssignOp operator at) b e rest tight (omega arith) (level-roll _) (omega arith) reaches
+    (λ depth bound. (h, rw (inside depth (omega arith)) refl))

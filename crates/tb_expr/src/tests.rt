@@ -1,0 +1,207 @@
+use super::*;
+use sqlite_items::Boxed;
+use std::alloc::Global;
+use std::process::Abort;
+use std::test::Fail;
+use tb_ast::{Expr, Parts};
+use tb_lex::{Tokens, lex};
+use tb_perm::Span;
+use tb_syntax::{Cursor, ReadError};
+
+/// The tokens of a text that has some.
+fn tokens_of(rt: &impl Abort, alloc: Global, text: &str) -> Tokens {
+    assert!(rt; text.len() <= 1_048_576);
+    match lex(alloc, text.as_bytes()) {
+        Ok(tokens) => tokens,
+        Err(_) => panic!(rt; "no tokens"),
+    }
+}
+
+/// The expression at the front of a text, if one is, and how many tokens and parts of tokens follow it.
+fn expression_in(
+    rt: &impl Abort,
+    alloc: Global,
+    depth: u32,
+    text: &str,
+) -> Option<(Boxed<Expr>, usize)> {
+    let tokens = tokens_of(rt, alloc, text);
+    match expression(Cursor::new(tokens.list.as_slice()), alloc, depth) {
+        Ok((e, rest)) => Some((e, rest.len())),
+        Err(ReadError::Unexpected) => None,
+        Err(ReadError::Memory) => panic!(rt; "out of memory"),
+    }
+}
+
+/// Texts, how deep expressions may be, and how many tokens follow the expression, if one is read.
+const READS: [(&str, u32, Option<usize>); 67] = [
+    ("1", 1, Some(0)),
+    ("1", 0, None),
+    ("'a' b'b' true", 1, Some(2)),
+    ("\"text\"", 9, None),
+    ("a::b::<T>", 2, Some(0)),
+    ("S { }", 1, Some(0)),
+    ("S { a, b: 1, }", 2, Some(0)),
+    ("S { a: 1 b: 2 }", 9, None),
+    ("()", 1, Some(0)),
+    ("(x)", 2, Some(0)),
+    ("(x)", 1, None),
+    ("(x,)", 9, None),
+    ("(x, y)", 2, Some(0)),
+    ("(x, y,)", 2, Some(0)),
+    ("(,)", 9, None),
+    ("[]", 1, Some(0)),
+    ("[x, y,]", 2, Some(0)),
+    ("[x; 3]", 2, Some(0)),
+    ("[x; 3usize]", 2, Some(0)),
+    ("[x; 3u8]", 9, None),
+    ("[x,; 3]", 9, None),
+    ("[x; n]", 9, None),
+    ("return", 1, Some(0)),
+    ("return }", 1, Some(1)),
+    ("return -x", 3, Some(0)),
+    ("return + 1", 2, Some(0)),
+    ("break", 1, Some(0)),
+    ("continue ;", 1, Some(1)),
+    ("print!(\"a\")", 1, Some(0)),
+    ("print!(\"{}\", x, y,)", 2, Some(0)),
+    ("print!(\"a\" x)", 9, None),
+    ("print!()", 9, None),
+    ("println!()", 1, Some(0)),
+    ("println!(x)", 9, None),
+    ("panic!()", 1, Some(0)),
+    ("panic!(\"a\")", 1, Some(0)),
+    ("panic!(\"a\",)", 9, None),
+    ("assert!(x,)", 2, Some(0)),
+    ("assert!()", 9, None),
+    ("vec!(x)", 9, None),
+    ("print != x", 2, Some(0)),
+    ("-!*x", 4, Some(0)),
+    ("&&x", 3, Some(0)),
+    ("&&x", 2, None),
+    ("& &mut x", 3, Some(0)),
+    ("&raw const x", 2, Some(0)),
+    ("&raw mut x", 2, Some(0)),
+    ("&raw", 2, Some(0)),
+    ("&raw x", 2, Some(1)),
+    ("a.b", 2, Some(0)),
+    ("a.0.1", 3, Some(0)),
+    ("a.0u8", 9, None),
+    ("a.b(c, d,)", 2, Some(0)),
+    ("a.b::<T>(c)", 9, Some(0)),
+    ("a.b::<T, U>(c)", 9, None),
+    ("a.b::<T,>(c)", 9, None),
+    ("a.b::<T>", 9, None),
+    ("f::<A, B>(x)", 2, Some(0)),
+    ("f()()", 1, Some(2)),
+    ("(f)()", 2, Some(2)),
+    ("a[b][c]", 3, Some(0)),
+    ("a < b < c", 9, None),
+    ("(a < b) < c", 4, Some(0)),
+    ("x as u8.y", 9, None),
+    ("x as usize < y", 9, None),
+    ("x as Vec<u8>>y", 4, Some(0)),
+    ("a..b", 9, None),
+];
+
+#[test]
+fn what_is_read(rt: HostRuntime) -> Result<(), Fail> {
+    let alloc = rt.alloc();
+    for (text, depth, left) in READS {
+        match expression_in(&rt, alloc, depth, text) {
+            Some((_, found)) => assert!(rt; left == Some(found)),
+            None => assert!(rt; left.is_none()),
+        }
+    }
+    Ok(())
+}
+
+/// Texts of two operands, and where these stand; (0, 0) twice where there are not two.
+const OPERANDS: [(&str, (u32, u32), (u32, u32)); 20] = [
+    ("a + b * c", (0, 1), (4, 9)),
+    ("a * b + c", (0, 5), (8, 9)),
+    ("a - b - c", (0, 5), (8, 9)),
+    ("a / b * c", (0, 5), (8, 9)),
+    ("a << b + c", (0, 1), (5, 10)),
+    ("a & b << c", (0, 1), (4, 10)),
+    ("a ^ b & c", (0, 1), (4, 9)),
+    ("a | b ^ c", (0, 1), (4, 9)),
+    ("a | b == c", (0, 5), (9, 10)),
+    ("a && b >= c", (0, 1), (5, 11)),
+    ("a || b && c", (0, 1), (5, 11)),
+    ("a = b || c", (0, 1), (4, 10)),
+    ("a = b = c", (0, 1), (4, 9)),
+    ("a += b >>= c", (0, 1), (5, 12)),
+    ("-a % b", (0, 2), (5, 6)),
+    ("-x as i8 * y", (0, 8), (11, 12)),
+    ("(x as usize) < y", (0, 12), (15, 16)),
+    ("return a = b", (0, 0), (0, 0)),
+    ("a[b + c]", (0, 1), (2, 7)),
+    ("*a.b = &c", (0, 4), (7, 9)),
+];
+
+#[test]
+fn how_operators_group(rt: HostRuntime) -> Result<(), Fail> {
+    let alloc = rt.alloc();
+    for (text, first, second) in OPERANDS {
+        let Some((e, left)) = expression_in(&rt, alloc, 9, text) else {
+            panic!(rt; "not read");
+        };
+        assert!(rt; left == 0);
+        let (found, other) = match e.get().parts() {
+            Parts::Two(first, second) => (first.span(), second.span()),
+            _ => (Span { lo: 0, hi: 0 }, Span { lo: 0, hi: 0 }),
+        };
+        assert!(rt; (found.lo, found.hi) == first && (other.lo, other.hi) == second);
+    }
+    Ok(())
+}
+
+/// Texts, and whether they begin with a statement or with the last expression of a block, and how many
+/// tokens follow it.
+const LINES: [(&str, Option<(bool, usize)>); 22] = [
+    (";", Some((true, 0))),
+    ("let x;", Some((true, 0))),
+    ("let mut x: u8 = 1; }", Some((true, 1))),
+    ("let x: Box<Box<u8>>= y;", Some((true, 0))),
+    ("let mut = 1;", None),
+    ("let x = ;", None),
+    ("x; }", Some((true, 1))),
+    ("x }", Some((false, 1))),
+    ("x y", None),
+    ("{ } + 1;", Some((true, 3))),
+    ("{ }.x }", Some((true, 3))),
+    ("{ } }", Some((false, 1))),
+    ("if a { } else if b { } else { } c", Some((true, 1))),
+    ("if a { } else b", None),
+    ("if x == S { a: 1 } { }", None),
+    ("if x == (S { a: 1 }) { } }", Some((false, 1))),
+    ("if x[S { }] { } }", Some((false, 1))),
+    ("while true { break; } ;", Some((true, 1))),
+    ("loop { return } }", Some((false, 1))),
+    ("unsafe { x = 1; y } }", Some((false, 1))),
+    ("x = loop { };", Some((true, 0))),
+    ("fn f() { }", None),
+];
+
+#[test]
+fn lines_and_blocks(rt: HostRuntime) -> Result<(), Fail> {
+    let alloc = rt.alloc();
+    for (text, expected) in LINES {
+        let tokens = tokens_of(&rt, alloc, text);
+        match next_line(Cursor::new(tokens.list.as_slice()), alloc, 9) {
+            Ok((Line::Stmt(_), rest)) => assert!(rt; expected == Some((true, rest.len()))),
+            Ok((Line::Last(_), rest)) => assert!(rt; expected == Some((false, rest.len()))),
+            Err(ReadError::Unexpected) => assert!(rt; expected.is_none()),
+            Err(ReadError::Memory) => panic!(rt; "out of memory"),
+        }
+    }
+    let tokens = tokens_of(&rt, alloc, "{ let a = 1; { } ; a } }");
+    match block(Cursor::new(tokens.list.as_slice()), alloc, 2) {
+        Ok((block, rest)) => {
+            assert!(rt; rest.len() == 1);
+            assert!(rt; block.statements.len() == 3 && block.last.is_some());
+        }
+        Err(_) => panic!(rt; "no block"),
+    }
+    Ok(())
+}
