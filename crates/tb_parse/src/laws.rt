@@ -1,0 +1,13 @@
+//! That no tokens have two trees.
+
+ghost use Rattle.std.specs.Prelude.{◌≡◌};
+ghost use Rattle.tb_lex.specs.declared.token.Tokens.{Tokens};
+ghost use Rattle.tb_ast.specs.declared.item.Tree.{Tree};
+ghost use Rattle.tb_ast.specs.Joined.{tokens_of};
+ghost use Rattle.tb_parse.specs.Trees.{IsTreeOf};
+
+/// No tokens have two trees, whatever their depth, and each tree has its own tokens alone.
+pub fn law_one_tree()
+    ensures one { (tokens : Tokens) (tree other : Tree) → IsTreeOf tokens tree → IsTreeOf tokens other → tree ≡ other }
+    ensures tokens { (tokens : Tokens) (tree : Tree) → IsTreeOf tokens tree → tokens_of tree ≡ tokens }
+{}

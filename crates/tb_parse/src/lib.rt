@@ -1,0 +1,17 @@
+//! The parser: from tokens to the tree of a whole file.
+//!
+//! What holds no expression is read by `tb_syntax`, and blocks by `tb_expr`. A tree is deep in its nodes
+//! at most 128, as `tb_ast::depth` counts.
+#![tactic(auto)]
+
+mod error;
+mod file;
+mod items;
+mod laws;
+
+pub use error::ParseError;
+pub use file::parse;
+pub use laws::law_one_tree;
+
+#[cfg(test)]
+mod tests;
