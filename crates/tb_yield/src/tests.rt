@@ -1,11 +1,12 @@
-//! A small file, made by hand.
+//! A small file, made by hand. Sources of every form are put down as their tokens in the tests of the
+//! parser.
 
 use crate::{Memory, yield_of};
-use sqlite_items::{Boxed, Items};
+use sqlite_items::Items;
 use std::alloc::Global;
 use std::test::Fail;
-use tb_ast::*;
-use tb_lex::{Name, lex};
+use tb_ast::{Ident, Item, ItemKind, Path, Tree, Use};
+use tb_lex::{Keyword, Name, Punctuation};
 use tb_perm::Span;
 
 fn at(lo: u32, hi: u32) -> Span {
@@ -18,17 +19,13 @@ fn ident(alloc: Global, byte: u8, span: Span) -> Result<Ident, Memory> {
     Ok(Ident { name, span })
 }
 
-fn path(alloc: Global, byte: u8, span: Span) -> Result<Path, Memory> {
-    Ok(Path {
-        span,
-        segments: Items::from_vec(vec![in alloc; ident(alloc, byte, span)?]?),
-        separators: Items::new(alloc),
-    })
-}
-
 /// `use a::b;`
 fn use_item(alloc: Global) -> Result<ItemKind, Memory> {
-    let mut path = path(alloc, b'a', at(4, 5))?;
+    let mut path = Path {
+        span: at(4, 8),
+        segments: Items::from_vec(vec![in alloc; ident(alloc, b'a', at(4, 5))?]?),
+        separators: Items::new(alloc),
+    };
     path.separators.push(at(5, 7))?;
     path.segments.push(ident(alloc, b'b', at(7, 8))?)?;
     Ok(ItemKind::Use(Use {
@@ -40,94 +37,28 @@ fn use_item(alloc: Global) -> Result<ItemKind, Memory> {
     }))
 }
 
-/// `let x: &&T = &&y;`, where each second `&` is one token with the first.
-fn statement(alloc: Global) -> Result<Stmt, Memory> {
-    let mut ty = TypeExpr::Path {
-        span: at(28, 29),
-        path: path(alloc, b'T', at(28, 29))?,
-        arguments: None,
-    };
-    for (span, glued) in [(at(27, 28), true), (at(26, 27), false)] {
-        ty = TypeExpr::Reference {
-            span,
-            and: Mark { span, glued },
-            lifetime: None,
-            mut_keyword: None,
-            target: Boxed::new(alloc, ty)?,
-        };
-    }
-    let mut value = Expr::Path(ExprPath {
-        span: at(34, 35),
-        path: path(alloc, b'y', at(34, 35))?,
-        turbofish: None,
-    });
-    for (span, glued) in [(at(33, 34), true), (at(32, 33), false)] {
-        value = Expr::Borrow {
-            span,
-            and: Mark { span, glued },
-            kind: Borrow::Shared,
-            operand: Boxed::new(alloc, value)?,
-        };
-    }
-    let colon = at(24, 25);
-    let (span, glued) = (at(30, 31), false);
-    let equals = Mark { span, glued };
-    Ok(Stmt::Let {
-        span: at(19, 36),
-        let_keyword: at(19, 22),
-        mut_keyword: None,
-        name: ident(alloc, b'x', at(23, 24))?,
-        ty: Some(TypeNote { colon, ty }),
-        value: Some(Initializer { equals, value }),
-        semicolon: at(35, 36),
-    })
-}
-
-/// `fn f() { .. }`
-fn function(alloc: Global) -> Result<ItemKind, Memory> {
-    Ok(ItemKind::Function(Function {
-        span: at(10, 38),
-        unsafe_keyword: None,
-        fn_keyword: at(10, 12),
-        name: ident(alloc, b'f', at(13, 14))?,
-        generics: None,
-        opening: at(14, 15),
-        parameters: Items::new(alloc),
-        commas: Items::new(alloc),
-        closing: at(15, 16),
-        result: None,
-        body: Block {
-            span: at(17, 38),
-            opening: at(17, 18),
-            statements: Items::from_vec(vec![in alloc; statement(alloc)?]?),
-            last: None,
-            closing: at(37, 38),
-        },
-    }))
-}
-
 #[test]
-fn tokens_again(rt: HostRuntime) -> Result<(), Fail> {
+fn tokens_of_a_use_item(rt: HostRuntime) -> Result<(), Fail> {
     let alloc = rt.alloc();
     let mut items = Items::new(alloc);
-    for kind in [use_item(alloc)?, function(alloc)?] {
-        items.push(Item {
-            span: at(0, 0),
-            attributes: Items::new(alloc),
-            kind,
-        })?;
-    }
+    items.push(Item {
+        span: at(0, 9),
+        attributes: Items::new(alloc),
+        kind: use_item(alloc)?,
+    })?;
     let tree = Tree {
         attributes: Items::new(alloc),
         items,
-        end: 38,
+        end: 9,
     };
-    let read = lex(alloc, b"use a::b; fn f() { let x: &&T = &&y; }")?;
-    let given = yield_of(alloc, &tree)?;
-    let (read, given) = (
-        format!(in alloc; "{read:?}")?,
-        format!(in alloc; "{given:?}")?,
-    );
-    assert!(rt; read.as_bytes() == given.as_bytes());
+    let tokens = yield_of(alloc, &tree)?;
+    assert_eq!(rt; tokens.end, 9);
+    let [word, first, separator, second, semicolon] = tokens.list.as_slice() else {
+        panic!(rt; "not five tokens");
+    };
+    assert!(rt; word.is_keyword(Keyword::Use) && word.span == at(0, 3));
+    assert!(rt; first.span == at(4, 5) && second.span == at(7, 8));
+    assert!(rt; separator.is_punctuation(Punctuation::PathSep) && separator.span == at(5, 7));
+    assert!(rt; semicolon.is_punctuation(Punctuation::Semicolon) && semicolon.span == at(8, 9));
     Ok(())
 }
