@@ -18,6 +18,3 @@ pub use blocks::block;
 pub use expressions::expression;
 pub use laws::{law_one_way, law_written};
 pub use lines::{Line, next_line};
-
-#[cfg(test)]
-mod tests;

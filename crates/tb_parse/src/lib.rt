@@ -14,4 +14,6 @@ pub use file::parse;
 pub use laws::law_one_tree;
 
 #[cfg(test)]
+mod line_tests;
+#[cfg(test)]
 mod tests;

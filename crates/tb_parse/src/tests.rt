@@ -62,7 +62,7 @@ const FILES: [(&str, Option<u32>); 56] = [
     ("use {a};", None),
     ("use a", None),
     ("struct S { }", Some(0)),
-    ("struct S<'a> { a: &'a u8, b: Box<S<'a>>, }", Some(3)),
+    ("struct S<'a> { a: &'a u8, b: Box<S<'a>>, }", Some(2)),
     (
         "#[derive(Clone, Copy)] #[repr(C)] struct S { a: u8 }",
         Some(1),

@@ -1,9 +1,11 @@
-use super::*;
+//! Expressions, statements and blocks by themselves.
+
 use sqlite_items::Boxed;
 use std::alloc::Global;
 use std::process::Abort;
 use std::test::Fail;
 use tb_ast::{Expr, Parts};
+use tb_expr::{Line, block, expression, next_line};
 use tb_lex::{Tokens, lex};
 use tb_perm::Span;
 use tb_syntax::{Cursor, ReadError};
