@@ -185,25 +185,48 @@ const LINES: [(&str, Option<(bool, usize)>); 22] = [
     ("fn f() { }", None),
 ];
 
+fn is_statement(line: &Line) -> bool {
+    match line {
+        Line::Stmt(_) => true,
+        Line::Last(_) => false,
+    }
+}
+
+/// Whether a text begins with a statement or with a last expression, if with one of them, and how many
+/// tokens follow it.
+fn line_in(rt: &impl Abort, alloc: Global, text: &str) -> Option<(bool, usize)> {
+    let tokens = tokens_of(rt, alloc, text);
+    match next_line(Cursor::new(tokens.list.as_slice()), alloc, 9) {
+        Ok((line, rest)) => Some((is_statement(&line), rest.len())),
+        Err(ReadError::Unexpected) => None,
+        Err(ReadError::Memory) => panic!(rt; "out of memory"),
+    }
+}
+
+/// How many statements the block at the front of a text has, if one is there, and whether an expression
+/// ends it, and how many tokens follow it.
+fn block_in(rt: &impl Abort, alloc: Global, text: &str) -> Option<(usize, bool, usize)> {
+    let tokens = tokens_of(rt, alloc, text);
+    match block(Cursor::new(tokens.list.as_slice()), alloc, 9) {
+        Ok((block, rest)) => Some((block.statements.len(), block.last.is_some(), rest.len())),
+        Err(ReadError::Unexpected) => None,
+        Err(ReadError::Memory) => panic!(rt; "out of memory"),
+    }
+}
+
 #[test]
 fn lines_and_blocks(rt: HostRuntime) -> Result<(), Fail> {
-    let alloc = rt.alloc();
     for (text, expected) in LINES {
-        let tokens = tokens_of(&rt, alloc, text);
-        match next_line(Cursor::new(tokens.list.as_slice()), alloc, 9) {
-            Ok((Line::Stmt(_), rest)) => assert!(rt; expected == Some((true, rest.len()))),
-            Ok((Line::Last(_), rest)) => assert!(rt; expected == Some((false, rest.len()))),
-            Err(ReadError::Unexpected) => assert!(rt; expected.is_none()),
-            Err(ReadError::Memory) => panic!(rt; "out of memory"),
-        }
+        assert_eq!(rt; line_in(&rt, rt.alloc(), text), expected);
     }
-    let tokens = tokens_of(&rt, alloc, "{ let a = 1; { } ; a } }");
-    match block(Cursor::new(tokens.list.as_slice()), alloc, 2) {
-        Ok((block, rest)) => {
-            assert!(rt; rest.len() == 1);
-            assert!(rt; block.statements.len() == 3 && block.last.is_some());
-        }
-        Err(_) => panic!(rt; "no block"),
+    let blocks = [
+        ("{ }", Some((0, false, 0))),
+        ("{ let a = 1; { } ; a } }", Some((3, true, 1))),
+        ("{ a b }", None),
+        ("{ a", None),
+    ];
+    for (text, expected) in blocks {
+        assert_eq!(rt; block_in(&rt, rt.alloc(), text), expected);
     }
     Ok(())
 }
