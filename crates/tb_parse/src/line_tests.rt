@@ -1,11 +1,11 @@
-//! Expressions, statements and blocks by themselves.
+//! Expressions and blocks by themselves.
 
 use sqlite_items::Boxed;
 use std::alloc::Global;
 use std::process::Abort;
 use std::test::Fail;
 use tb_ast::{Expr, Parts};
-use tb_expr::{Line, block, expression, next_line};
+use tb_expr::{block, expression};
 use tb_lex::{Tokens, lex};
 use tb_perm::Span;
 use tb_syntax::{Cursor, ReadError};
@@ -158,53 +158,8 @@ fn how_operators_group(rt: HostRuntime) -> Result<(), Fail> {
     Ok(())
 }
 
-/// Texts, and whether they begin with a statement or with the last expression of a block, and how many
-/// tokens follow it.
-const LINES: [(&str, Option<(bool, usize)>); 22] = [
-    (";", Some((true, 0))),
-    ("let x;", Some((true, 0))),
-    ("let mut x: u8 = 1; }", Some((true, 1))),
-    ("let x: Box<Box<u8>>= y;", Some((true, 0))),
-    ("let mut = 1;", None),
-    ("let x = ;", None),
-    ("x; }", Some((true, 1))),
-    ("x }", Some((false, 1))),
-    ("x y", None),
-    ("{ } + 1;", Some((true, 3))),
-    ("{ }.x }", Some((true, 3))),
-    ("{ } }", Some((false, 1))),
-    ("if a { } else if b { } else { } c", Some((true, 1))),
-    ("if a { } else b", None),
-    ("if x == S { a: 1 } { }", None),
-    ("if x == (S { a: 1 }) { } }", Some((false, 1))),
-    ("if x[S { }] { } }", Some((false, 1))),
-    ("while true { break; } ;", Some((true, 1))),
-    ("loop { return } }", Some((false, 1))),
-    ("unsafe { x = 1; y } }", Some((false, 1))),
-    ("x = loop { };", Some((true, 0))),
-    ("fn f() { }", None),
-];
-
-fn is_statement(line: &Line) -> bool {
-    match line {
-        Line::Stmt(_) => true,
-        Line::Last(_) => false,
-    }
-}
-
-/// Whether a text begins with a statement or with a last expression, if with one of them, and how many
-/// tokens follow it.
-fn line_in(rt: &impl Abort, alloc: Global, text: &str) -> Option<(bool, usize)> {
-    let tokens = tokens_of(rt, alloc, text);
-    match next_line(Cursor::new(tokens.list.as_slice()), alloc, 9) {
-        Ok((line, rest)) => Some((is_statement(&line), rest.len())),
-        Err(ReadError::Unexpected) => None,
-        Err(ReadError::Memory) => panic!(rt; "out of memory"),
-    }
-}
-
-/// How many statements the block at the front of a text has, if one is there, and whether an expression
-/// ends it, and how many tokens follow it.
+/// How many statements the block at the front of a text has, and whether an expression ends it, if one is
+/// there, and how many tokens follow it.
 fn block_in(rt: &impl Abort, alloc: Global, text: &str) -> Option<(usize, bool, usize)> {
     let tokens = tokens_of(rt, alloc, text);
     match block(Cursor::new(tokens.list.as_slice()), alloc, 9) {
@@ -214,18 +169,38 @@ fn block_in(rt: &impl Abort, alloc: Global, text: &str) -> Option<(usize, bool, 
     }
 }
 
+/// Texts, and the block at their front, if there is one.
+const BLOCKS: [(&str, Option<(usize, bool, usize)>); 25] = [
+    ("{ }", Some((0, false, 0))),
+    ("{ let a = 1; { } ; a } }", Some((3, true, 1))),
+    ("{ ; }", Some((1, false, 0))),
+    ("{ let x; }", Some((1, false, 0))),
+    ("{ let mut x: u8 = 1; }", Some((1, false, 0))),
+    ("{ let x: Box<Box<u8>>= y; }", Some((1, false, 0))),
+    ("{ let mut = 1; }", None),
+    ("{ let x = ; }", None),
+    ("{ x; }", Some((1, false, 0))),
+    ("{ x }", Some((0, true, 0))),
+    ("{ x y }", None),
+    ("{ x", None),
+    ("{ { } + 1; }", None),
+    ("{ { }.x }", None),
+    ("{ { } }", Some((0, true, 0))),
+    ("{ if a { } else if b { } else { } c }", Some((1, true, 0))),
+    ("{ if a { } else b }", None),
+    ("{ if x == S { a: 1 } { } }", None),
+    ("{ if x == (S { a: 1 }) { } }", Some((0, true, 0))),
+    ("{ if x[S { }] { } }", Some((0, true, 0))),
+    ("{ while true { break; } ; }", Some((2, false, 0))),
+    ("{ loop { return } }", Some((0, true, 0))),
+    ("{ unsafe { x = 1; y } }", Some((0, true, 0))),
+    ("{ x = loop { }; }", Some((1, false, 0))),
+    ("{ fn f() { } }", None),
+];
+
 #[test]
-fn lines_and_blocks(rt: HostRuntime) -> Result<(), Fail> {
-    for (text, expected) in LINES {
-        assert_eq!(rt; line_in(&rt, rt.alloc(), text), expected);
-    }
-    let blocks = [
-        ("{ }", Some((0, false, 0))),
-        ("{ let a = 1; { } ; a } }", Some((3, true, 1))),
-        ("{ a b }", None),
-        ("{ a", None),
-    ];
-    for (text, expected) in blocks {
+fn blocks(rt: HostRuntime) -> Result<(), Fail> {
+    for (text, expected) in BLOCKS {
         assert_eq!(rt; block_in(&rt, rt.alloc(), text), expected);
     }
     Ok(())
