@@ -35,6 +35,3 @@ pub use operator::{AssignOp, BinaryOp, Borrow, UnaryOp};
 pub use parts::Parts;
 pub use piece::Piece;
 pub use written::{PointerKind, Turbofish, TypeArgument, TypeArguments, TypeExpr, TypeNote};
-
-#[cfg(test)]
-mod tests;

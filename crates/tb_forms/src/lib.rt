@@ -32,6 +32,3 @@ pub use tree::{
     assign_to, binary_with, borrow_to, cast_to, compute_to, field_of, if_to, loop_to, panic_of,
     return_to, tuple_field_of, unary_to, unsafe_to, while_to,
 };
-
-#[cfg(test)]
-mod tests;

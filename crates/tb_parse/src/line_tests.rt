@@ -4,7 +4,7 @@ use sqlite_items::Boxed;
 use std::alloc::Global;
 use std::process::Abort;
 use std::test::Fail;
-use tb_ast::{Expr, Parts};
+use tb_ast::{BinaryOp, Expr, Form, Parts};
 use tb_expr::{block, expression};
 use tb_lex::{Tokens, lex};
 use tb_perm::Span;
@@ -35,7 +35,7 @@ fn expression_in(
 }
 
 /// Texts, how deep expressions may be, and how many tokens follow the expression, if one is read.
-const READS: [(&str, u32, Option<usize>); 67] = [
+const READS: [(&str, u32, Option<usize>); 112] = [
     ("1", 1, Some(0)),
     ("1", 0, None),
     ("'a' b'b' true", 1, Some(2)),
@@ -103,6 +103,51 @@ const READS: [(&str, u32, Option<usize>); 67] = [
     ("x as usize < y", 9, None),
     ("x as Vec<u8>>y", 4, Some(0)),
     ("a..b", 9, None),
+    ("+ a", 9, None),
+    ("else", 9, None),
+    ("3u8 b", 1, Some(1)),
+    ("&= x", 9, None),
+    ("a::<T> { }", 9, Some(2)),
+    ("f::<u8, Box<u8>>(x)", 3, Some(0)),
+    ("f::<>", 1, Some(0)),
+    ("f::<'a>", 9, None),
+    ("x.f::<T> a", 9, None),
+    ("x! a", 9, None),
+    ("return {", 9, None),
+    ("x as u8", 2, Some(0)),
+    ("x as u8", 1, None),
+    ("x as a::b::C d", 2, Some(1)),
+    ("x as a::", 2, Some(1)),
+    ("x as a::fn", 2, Some(2)),
+    ("x as ()", 2, Some(0)),
+    ("x as (T)", 9, None),
+    ("x as (T,)", 9, None),
+    ("x as (,)", 9, None),
+    ("x as (T, U)", 3, Some(0)),
+    ("x as (T, U,)", 3, Some(0)),
+    ("x as (T, U)", 2, None),
+    ("x as (T U)", 9, None),
+    ("x as [T]", 3, Some(0)),
+    ("x as [T; 3]", 3, Some(0)),
+    ("x as [T; 3usize]", 9, None),
+    ("x as [T; n]", 9, None),
+    ("x as [T", 9, None),
+    ("x as &'a mut T", 3, Some(0)),
+    ("x as &mut 'a T", 9, None),
+    ("x as &&T", 4, Some(0)),
+    ("x as &&T", 3, None),
+    ("x as &&&&mut T", 6, Some(0)),
+    ("x as &= T", 9, None),
+    ("x as *const T", 3, Some(0)),
+    ("x as *mut *const T", 4, Some(0)),
+    ("x as *T", 9, None),
+    ("x as Box<>", 2, Some(0)),
+    ("x as A<'a, T,>", 3, Some(0)),
+    ("x as Box<Box<u8>>", 4, Some(0)),
+    ("x as Box<Box<Box<u8>>>", 5, Some(0)),
+    ("x as Box<u8>= 1", 4, Some(0)),
+    ("x as Box<Box<u8>>= 1", 5, Some(0)),
+    ("x as usize << 2", 3, Some(0)),
 ];
 
 #[test]
@@ -118,7 +163,7 @@ fn what_is_read(rt: HostRuntime) -> Result<(), Fail> {
 }
 
 /// Texts of two operands, and where these stand; (0, 0) twice where there are not two.
-const OPERANDS: [(&str, (u32, u32), (u32, u32)); 20] = [
+const OPERANDS: [(&str, (u32, u32), (u32, u32)); 26] = [
     ("a + b * c", (0, 1), (4, 9)),
     ("a * b + c", (0, 5), (8, 9)),
     ("a - b - c", (0, 5), (8, 9)),
@@ -139,11 +184,21 @@ const OPERANDS: [(&str, (u32, u32), (u32, u32)); 20] = [
     ("return a = b", (0, 0), (0, 0)),
     ("a[b + c]", (0, 1), (2, 7)),
     ("*a.b = &c", (0, 4), (7, 9)),
+    ("a >> b - c", (0, 1), (5, 10)),
+    ("a < b + c", (0, 1), (4, 9)),
+    ("a | b <= c", (0, 5), (9, 10)),
+    ("a != b | c", (0, 1), (5, 10)),
+    ("a && b > c", (0, 1), (5, 10)),
+    ("a % b / c", (0, 5), (8, 9)),
 ];
 
 #[test]
 fn how_operators_group(rt: HostRuntime) -> Result<(), Fail> {
     let alloc = rt.alloc();
+    let Some((e, _)) = expression_in(&rt, alloc, 9, "a * b - c") else {
+        panic!(rt; "not read");
+    };
+    assert!(rt; matches!(e.get().form(), Form::Binary(BinaryOp::Sub)));
     for (text, first, second) in OPERANDS {
         let Some((e, left)) = expression_in(&rt, alloc, 9, text) else {
             panic!(rt; "not read");

@@ -51,7 +51,7 @@ fn depth_in(rt: &impl Abort, alloc: Global, text: &[u8]) -> Option<u32> {
 }
 
 /// Whole files, and the depth of their trees where they have one.
-const FILES: [(&str, Option<u32>); 56] = [
+const FILES: [(&str, Option<u32>); 74] = [
     ("", Some(0)),
     ("#![allow(a, b,)] #![allow()]", Some(0)),
     ("#![allow(a)] use a;", Some(0)),
@@ -114,6 +114,36 @@ const FILES: [(&str, Option<u32>); 56] = [
         "fn f() { println!(\"{}\", a + 1,); assert!(x); panic!() }",
         Some(5),
     ),
+    (
+        "#[allow()] #[derive(Copy, Clone,)] #[repr(C)] fn f() { }",
+        Some(1),
+    ),
+    ("#[repr(C,)] fn f() { }", None),
+    ("use a::b::c; use a::{b, c,};", Some(0)),
+    ("use a::;", None),
+    ("struct S<'a, 'b,> { a: &'a T, b: (U, V), }", Some(2)),
+    ("struct S<T> {}", None),
+    ("struct S { a: T b: T }", None),
+    ("struct fn {}", None),
+    (
+        "struct S { a: &&'a mut [u8; 2], b: A<B<C<*const u8>>>, c: A<B<()>>, d: A<u8> }",
+        Some(5),
+    ),
+    (
+        "unsafe fn f<'a, T: A + B, U,>(mut a: T, b: &'a U,) -> Box<T> { a }",
+        Some(2),
+    ),
+    ("fn f<T: >() {}", None),
+    ("fn f<T: A +>() {}", None),
+    ("fn f(a: T b: T) {}", None),
+    ("fn unsafe f() {}", None),
+    ("fn f() -> {}", None),
+    (
+        "unsafe extern \"C\" { fn f() -> T; fn g() -> &U; }",
+        Some(2),
+    ),
+    ("extern \"C\" { fn f(a: T) -> T; }", None),
+    ("extern { }", None),
 ];
 
 #[test]
@@ -159,6 +189,23 @@ fn limits(rt: HostRuntime) -> Result<(), Fail> {
         assert_eq!(rt; depth_in(&rt, rt.alloc(), within.as_slice()), Some(128));
         let beyond = nested(&rt, rt.alloc(), times + 1, parts);
         assert_eq!(rt; depth_in(&rt, rt.alloc(), beyond.as_slice()), None);
+    }
+    Ok(())
+}
+
+/// A front, a piece so many times, and a back, of about a mebibyte together, and how deep the tree is, if
+/// there is one.
+const LONG: [(&str, &str, usize, &str, Option<u32>); 3] = [
+    ("fn f() { ", "x = y + 1; ", 95_000, "}", Some(5)),
+    ("fn f() { g(", "a, ", 349_000, ") }", Some(3)),
+    ("fn f() { ", "x; ", 349_000, "", None),
+];
+
+#[test]
+fn long_files(rt: HostRuntime) -> Result<(), Fail> {
+    for (front, piece, times, back, expected) in LONG {
+        let text = nested(&rt, rt.alloc(), times, [front, piece, "", "", back]);
+        assert_eq!(rt; depth_in(&rt, rt.alloc(), text.as_slice()), expected);
     }
     Ok(())
 }

@@ -22,6 +22,3 @@ pub use error::ReadError;
 pub use heads::FunctionHead;
 pub use laws::{law_attributes, law_items, law_paths, law_pieces, law_tokens};
 pub use types::from_to;
-
-#[cfg(test)]
-mod tests;

@@ -13,6 +13,3 @@ mod written_pieces;
 
 pub use joining::{law_apart, yield_of};
 pub use memory::Memory;
-
-#[cfg(test)]
-mod tests;
