@@ -12,8 +12,6 @@ mod allocs;
 mod entries;
 mod faults;
 mod ptr;
-#[cfg(test)]
-mod tests;
 
 pub use allocation::{AllocKind, Allocation};
 pub use allocs::Allocs;

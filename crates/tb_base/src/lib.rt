@@ -14,8 +14,6 @@ mod put;
 mod real;
 mod sink;
 mod source;
-#[cfg(test)]
-mod tests;
 
 pub use fault::{Fault, FileError, Memory};
 pub use files::Files;

@@ -6,8 +6,6 @@ mod byte_val;
 mod bytes;
 mod marks;
 mod origins;
-#[cfg(test)]
-mod tests;
 
 pub use byte_val::ByteVal;
 pub use bytes::{Bytes, Memory};

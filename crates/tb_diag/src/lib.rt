@@ -5,6 +5,3 @@ mod places;
 mod reports;
 
 pub use reports::{Memory, report};
-
-#[cfg(test)]
-mod tests;

@@ -11,6 +11,3 @@ pub use frame::Frame;
 pub use outcome::{EvalError, Outcome, Panic};
 pub use print::{PrintError, print_text};
 pub use value::{Slot, operand, place, pointer, rvalue, variable};
-
-#[cfg(test)]
-mod tests;

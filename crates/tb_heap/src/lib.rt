@@ -10,6 +10,3 @@ mod value;
 pub use heap::Heap;
 pub use stop::Stop;
 pub use value::Value;
-
-#[cfg(test)]
-mod tests;

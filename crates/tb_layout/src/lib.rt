@@ -11,6 +11,3 @@ pub use answer::{Layout, LayoutError, Memory};
 pub use extent::Extent;
 pub use marks::cells;
 pub use offsets::layout;
-
-#[cfg(test)]
-mod tests;

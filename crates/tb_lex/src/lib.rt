@@ -25,6 +25,3 @@ pub use punctuation::Punctuation;
 pub use source::lex;
 pub use suffix::Suffix;
 pub use token::{Integer, Name, Text, Token, TokenKind, Tokens};
-
-#[cfg(test)]
-mod tests;

@@ -12,6 +12,3 @@ mod values;
 pub use laws::law_names;
 pub use memory::Memory;
 pub use source::lower_source;
-
-#[cfg(test)]
-mod tests;

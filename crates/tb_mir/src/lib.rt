@@ -9,6 +9,3 @@ mod operand;
 pub use line::{Line, MirLine};
 pub use mir::{Block, Func, Local, LocalKind, Mir, Ty};
 pub use operand::{Base, BinOp, Constant, Operand, Place, RefKind, Rvalue};
-
-#[cfg(test)]
-mod tests;

@@ -12,8 +12,3 @@ mod laws;
 pub use error::ParseError;
 pub use file::parse;
 pub use laws::law_one_tree;
-
-#[cfg(test)]
-mod line_tests;
-#[cfg(test)]
-mod tests;

@@ -18,8 +18,6 @@ mod span;
 mod steps;
 mod table;
 mod tag;
-#[cfg(test)]
-mod tests;
 
 pub use borrow_tree::{BorrowTree, Memory};
 pub use code::Code;

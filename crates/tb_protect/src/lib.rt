@@ -8,7 +8,5 @@
 mod index;
 mod protectors;
 mod stack;
-#[cfg(test)]
-mod tests;
 
 pub use protectors::{Memory, Protectors};

@@ -6,8 +6,6 @@ mod patch;
 mod pieces;
 mod run;
 mod runs;
-#[cfg(test)]
-mod tests;
 
 pub use run::Run;
 pub use runs::{Memory, Runs};

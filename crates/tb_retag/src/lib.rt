@@ -8,6 +8,3 @@
 mod places;
 
 pub use places::{Memory, place};
-
-#[cfg(test)]
-mod tests;

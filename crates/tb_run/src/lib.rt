@@ -7,6 +7,3 @@ mod runs;
 
 pub use machine::{Machine, Memory, Turn};
 pub use runs::run;
-
-#[cfg(test)]
-mod tests;

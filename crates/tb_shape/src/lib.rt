@@ -5,7 +5,5 @@ mod edits;
 mod entries;
 mod nodes;
 mod shape;
-#[cfg(test)]
-mod tests;
 
 pub use shape::{Memory, Shape};

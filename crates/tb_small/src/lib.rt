@@ -19,6 +19,3 @@ pub use tree::{
     Assign, Atom, Block, Borrow, Deref, Inner, Int, Let, Name, Print, RefKind, Right, SmallTree,
     Spot, Statement, Sum, Text, Ty, UnsafeBlock, UnsafeRight, Value, Variable,
 };
-
-#[cfg(test)]
-mod tests;

@@ -12,8 +12,3 @@ mod words;
 
 pub use call::{Status, tbmiri};
 pub use laws::law_one_mir;
-
-#[cfg(test)]
-mod references;
-#[cfg(test)]
-mod tests;

@@ -13,8 +13,6 @@ mod name;
 mod parts;
 mod shape;
 mod tables;
-#[cfg(test)]
-mod tests;
 mod types;
 
 pub use builtin::Builtin;

@@ -1,4 +1,0 @@
-use Rattle.tb_heap.proofs.tests.pointers_to_nothing.Given as goal
-
-abbrev pub ghosts-through_nothing_from : goal.ghosts-through_nothing_from
-ghosts-through_nothing_from g a = record { name = a.blank.name; parts = a.blank.parts }

@@ -1,4 +1,0 @@
-use Rattle.tb_perm.proofs.tests.ticks.Given as goal
-
-abbrev pub ghosts-two_ticks : goal.ghosts-two_ticks
-ghosts-two_ticks g a = record { name = a.blank.name; parts = a.blank.parts }

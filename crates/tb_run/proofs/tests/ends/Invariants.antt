@@ -1,4 +1,0 @@
-use Rattle.tb_run.proofs.tests.ends.Given as goal
-
-abbrev pub ghosts-ends_from : goal.ghosts-ends_from
-ghosts-ends_from g a = record { name = a.blank.name; parts = a.blank.parts }
