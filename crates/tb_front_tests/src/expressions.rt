@@ -25,8 +25,11 @@ fn expression_in(
     }
 }
 
-/// Texts, how deep expressions may be, and how many tokens follow the expression, if one is read.
-const READS: [(&str, u32, Option<usize>); 112] = [
+/// A text, how deep expressions may be, and how many tokens follow the expression, if one is read.
+type Row = (&'static str, u32, Option<usize>);
+
+/// Literals, paths, and what is closed by brackets.
+const ENCLOSED: [Row; 25] = [
     ("1", 1, Some(0)),
     ("1", 0, None),
     ("'a' b'b' true", 1, Some(2)),
@@ -49,6 +52,13 @@ const READS: [(&str, u32, Option<usize>); 112] = [
     ("[x; 3u8]", 9, None),
     ("[x,; 3]", 9, None),
     ("[x; n]", 9, None),
+    ("else", 9, None),
+    ("3u8 b", 1, Some(1)),
+    ("a::<T> { }", 9, Some(2)),
+];
+
+/// What begins with a word or a prefix.
+const BEGUN: [Row; 31] = [
     ("return", 1, Some(0)),
     ("return }", 1, Some(1)),
     ("return -x", 3, Some(0)),
@@ -76,6 +86,14 @@ const READS: [(&str, u32, Option<usize>); 112] = [
     ("&raw mut x", 2, Some(0)),
     ("&raw", 2, Some(0)),
     ("&raw x", 2, Some(1)),
+    ("+ a", 9, None),
+    ("&= x", 9, None),
+    ("x! a", 9, None),
+    ("return {", 9, None),
+];
+
+/// What goes on behind an operand.
+const CONTINUED: [Row; 22] = [
     ("a.b", 2, Some(0)),
     ("a.0.1", 3, Some(0)),
     ("a.0u8", 9, None),
@@ -94,17 +112,14 @@ const READS: [(&str, u32, Option<usize>); 112] = [
     ("x as usize < y", 9, None),
     ("x as Vec<u8>>y", 4, Some(0)),
     ("a..b", 9, None),
-    ("+ a", 9, None),
-    ("else", 9, None),
-    ("3u8 b", 1, Some(1)),
-    ("&= x", 9, None),
-    ("a::<T> { }", 9, Some(2)),
     ("f::<u8, Box<u8>>(x)", 3, Some(0)),
     ("f::<>", 1, Some(0)),
     ("f::<'a>", 9, None),
     ("x.f::<T> a", 9, None),
-    ("x! a", 9, None),
-    ("return {", 9, None),
+];
+
+/// Types, behind `as`.
+const CAST: [Row; 34] = [
     ("x as u8", 2, Some(0)),
     ("x as u8", 1, None),
     ("x as a::b::C d", 2, Some(1)),
@@ -141,16 +156,30 @@ const READS: [(&str, u32, Option<usize>); 112] = [
     ("x as usize << 2", 3, Some(0)),
 ];
 
-#[test]
-fn what_is_read(rt: HostRuntime) -> Result<(), Fail> {
-    let alloc = rt.alloc();
-    for (text, depth, left) in READS {
-        match expression_in(&rt, alloc, depth, text) {
-            Some((_, found)) => assert!(rt; left == Some(found)),
+/// Whether each of these texts is read so.
+fn check_reads(rt: &impl Abort, alloc: Global, rows: &[Row]) {
+    for (text, depth, left) in rows {
+        match expression_in(rt, alloc, *depth, text) {
+            Some((_, found)) => assert!(rt; *left == Some(found)),
             None => assert!(rt; left.is_none()),
         }
     }
-    Ok(())
+}
+
+#[test]
+fn operands(rt: HostRuntime) {
+    check_reads(&rt, rt.alloc(), &ENCLOSED);
+    check_reads(&rt, rt.alloc(), &BEGUN);
+}
+
+#[test]
+fn what_goes_on(rt: HostRuntime) {
+    check_reads(&rt, rt.alloc(), &CONTINUED);
+}
+
+#[test]
+fn types(rt: HostRuntime) {
+    check_reads(&rt, rt.alloc(), &CAST);
 }
 
 /// Texts of two operands, and where these stand; (0, 0) twice where there are not two.

@@ -49,8 +49,11 @@ fn depth_in(rt: &impl Abort, alloc: Global, text: &[u8]) -> Option<u32> {
     }
 }
 
-/// Whole files, and the depth of their trees where they have one.
-const FILES: [(&str, Option<u32>); 74] = [
+/// A whole file, and the depth of its tree where it has one.
+type Row = (&'static str, Option<u32>);
+
+/// Items and attributes.
+const ITEMS: [Row; 46] = [
     ("", Some(0)),
     ("#![allow(a, b,)] #![allow()]", Some(0)),
     ("#![allow(a)] use a;", Some(0)),
@@ -82,37 +85,6 @@ const FILES: [(&str, Option<u32>); 74] = [
     ("fn f()", None),
     ("fn f() { } }", None),
     ("fn f() { } x", None),
-    ("fn f() { ; }", Some(2)),
-    ("fn f() { let x = 1; }", Some(3)),
-    ("fn f() { let x: Box<Box<u8>>= y; }", Some(5)),
-    ("fn f() { let x: Box<Box<u8>> = y; x }", Some(5)),
-    ("fn f() { x }", Some(2)),
-    ("fn f() { (x) }", Some(3)),
-    ("fn f() { { } }", Some(2)),
-    ("fn f() { { } { } }", Some(3)),
-    ("fn f() { { } + 1; }", None),
-    ("fn f() { x = { } + 1; }", Some(5)),
-    ("fn f() { loop { } }", Some(3)),
-    ("fn f() { let x = loop { break; }; }", Some(6)),
-    ("fn f() { unsafe { x } }", Some(4)),
-    ("fn f() { if a {} else if b {} else {} }", Some(4)),
-    ("fn f() { if a {} else if b {} else if c {} }", Some(5)),
-    ("fn f() { if x == S { a: 1 } {} }", None),
-    ("fn f() { if x == (S { a: 1 }) {} }", Some(6)),
-    ("fn f() { while f(S { a: 1 }) { continue } }", Some(5)),
-    ("fn f() { a < b < c }", None),
-    ("fn f() { (a < b) < c }", Some(5)),
-    ("fn f() { a = b = c }", Some(4)),
-    ("fn f() { &&x; & &mut x }", Some(5)),
-    ("fn f() { f::<A, B>(x) }", Some(3)),
-    ("fn f() { a.0.1 }", Some(4)),
-    ("fn f() { return }", Some(2)),
-    ("fn f() { return return; }", Some(4)),
-    ("fn f() { x as usize < y }", None),
-    (
-        "fn f() { println!(\"{}\", a + 1,); assert!(x); panic!() }",
-        Some(5),
-    ),
     (
         "#[allow()] #[derive(Copy, Clone,)] #[repr(C)] fn f() { }",
         Some(1),
@@ -145,12 +117,56 @@ const FILES: [(&str, Option<u32>); 74] = [
     ("extern { }", None),
 ];
 
-#[test]
-fn files(rt: HostRuntime) -> Result<(), Fail> {
-    for (text, expected) in FILES {
-        assert_eq!(rt; depth_in(&rt, rt.alloc(), text.as_bytes()), expected);
+/// Bodies of functions.
+const BODIES: [Row; 28] = [
+    ("fn f() { ; }", Some(2)),
+    ("fn f() { let x = 1; }", Some(3)),
+    ("fn f() { let x: Box<Box<u8>>= y; }", Some(5)),
+    ("fn f() { let x: Box<Box<u8>> = y; x }", Some(5)),
+    ("fn f() { x }", Some(2)),
+    ("fn f() { (x) }", Some(3)),
+    ("fn f() { { } }", Some(2)),
+    ("fn f() { { } { } }", Some(3)),
+    ("fn f() { { } + 1; }", None),
+    ("fn f() { x = { } + 1; }", Some(5)),
+    ("fn f() { loop { } }", Some(3)),
+    ("fn f() { let x = loop { break; }; }", Some(6)),
+    ("fn f() { unsafe { x } }", Some(4)),
+    ("fn f() { if a {} else if b {} else {} }", Some(4)),
+    ("fn f() { if a {} else if b {} else if c {} }", Some(5)),
+    ("fn f() { if x == S { a: 1 } {} }", None),
+    ("fn f() { if x == (S { a: 1 }) {} }", Some(6)),
+    ("fn f() { while f(S { a: 1 }) { continue } }", Some(5)),
+    ("fn f() { a < b < c }", None),
+    ("fn f() { (a < b) < c }", Some(5)),
+    ("fn f() { a = b = c }", Some(4)),
+    ("fn f() { &&x; & &mut x }", Some(5)),
+    ("fn f() { f::<A, B>(x) }", Some(3)),
+    ("fn f() { a.0.1 }", Some(4)),
+    ("fn f() { return }", Some(2)),
+    ("fn f() { return return; }", Some(4)),
+    ("fn f() { x as usize < y }", None),
+    (
+        "fn f() { println!(\"{}\", a + 1,); assert!(x); panic!() }",
+        Some(5),
+    ),
+];
+
+/// Whether each of these files has a tree so deep, or none.
+fn check_files(rt: &impl Abort, alloc: Global, rows: &[Row]) {
+    for (text, expected) in rows {
+        assert!(rt; depth_in(rt, alloc, text.as_bytes()) == *expected);
     }
-    Ok(())
+}
+
+#[test]
+fn items(rt: HostRuntime) {
+    check_files(&rt, rt.alloc(), &ITEMS);
+}
+
+#[test]
+fn bodies(rt: HostRuntime) {
+    check_files(&rt, rt.alloc(), &BODIES);
 }
 
 /// A text with this part so many times before it, and that one so many times behind it.
