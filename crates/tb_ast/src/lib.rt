@@ -10,7 +10,6 @@ mod expression;
 mod form;
 mod item;
 mod leaf;
-mod memory;
 mod nesting;
 mod operator;
 mod parts;
@@ -29,7 +28,6 @@ pub use leaf::{
     BoolLiteral, ByteLiteral, CharLiteral, Ident, IntLiteral, Lifetime, Literal, Mark, Path,
     TextLiteral,
 };
-pub use memory::Memory;
 pub use nesting::depth;
 pub use operator::{AssignOp, BinaryOp, Borrow, UnaryOp};
 pub use parts::Parts;

@@ -1,4 +1,4 @@
-//! Expressions and blocks by themselves.
+//! Expressions, statements and blocks by themselves.
 
 use crate::files::tokens_of;
 use sqlite_items::Boxed;
@@ -6,7 +6,7 @@ use std::alloc::Global;
 use std::process::Abort;
 use std::test::Fail;
 use tb_ast::{BinaryOp, Expr, Form, Parts};
-use tb_expr::{block, expression};
+use tb_expr::{Line, block, expression, next_line};
 use tb_perm::Span;
 use tb_syntax::{Cursor, ReadError};
 
@@ -277,6 +277,59 @@ const BLOCKS: [(&str, Option<(usize, bool, usize)>); 25] = [
 fn blocks(rt: HostRuntime) -> Result<(), Fail> {
     for (text, expected) in BLOCKS {
         assert_eq!(rt; block_in(&rt, rt.alloc(), text), expected);
+    }
+    Ok(())
+}
+
+/// The statement or last expression at the front of a text, if one is, and how many tokens follow it.
+fn line_in(rt: &impl Abort, alloc: Global, depth: u32, text: &str) -> Option<(Line, usize)> {
+    let tokens = tokens_of(rt, alloc, text.as_bytes());
+    match next_line(Cursor::new(tokens.list.as_slice()), alloc, depth) {
+        Ok((line, rest)) => Some((line, rest.len())),
+        Err(ReadError::Unexpected) => None,
+        Err(ReadError::Memory) => panic!(rt; "out of memory"),
+    }
+}
+
+/// Whether a line is a statement, and not the last expression of a block.
+fn is_statement(line: Line) -> bool {
+    match line {
+        Line::Stmt(_) => true,
+        Line::Last(_) => false,
+    }
+}
+
+/// Texts, how deep expressions may be, and whether the line at the front is a statement and how many tokens follow it,
+/// if one is there.
+const LINES: [(&'static str, u32, Option<(bool, usize)>); 18] = [
+    (";", 0, Some((true, 0))),
+    ("; a", 0, Some((true, 1))),
+    ("let x;", 0, Some((true, 0))),
+    ("let x = 1;", 0, None),
+    ("let x = 1; let", 1, Some((true, 1))),
+    ("let x: u8 = -y;", 2, Some((true, 0))),
+    ("x; }", 1, Some((true, 1))),
+    ("x; }", 0, None),
+    ("x }", 1, Some((false, 1))),
+    ("x", 9, None),
+    ("x y;", 9, None),
+    ("{ } }", 9, Some((false, 1))),
+    ("{ } x", 9, Some((true, 1))),
+    ("{ } + 1;", 9, Some((true, 3))),
+    ("if a { } else { } .b }", 9, Some((true, 3))),
+    ("loop { }", 9, Some((true, 0))),
+    ("x = { 1 } + 2; y", 9, Some((true, 1))),
+    ("}", 9, None),
+];
+
+#[test]
+fn lines(rt: HostRuntime) -> Result<(), Fail> {
+    let alloc = rt.alloc();
+    for (text, depth, expected) in LINES {
+        match line_in(&rt, alloc, depth, text) {
+            Some((line, left)) => assert_eq!(rt; Some((is_statement(line), left)), expected),
+            None => assert!(rt; expected.is_none()),
+        }
     }
     Ok(())
 }

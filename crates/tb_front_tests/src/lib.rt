@@ -1,5 +1,5 @@
-//! Tests of the front end, by sources: `tb_lex`, `tb_parse` with the crates of trees and readers below it, `tb_types`,
-//! `tb_layout` and `tb_small`.
+//! Tests of the tokens of the whole language and of its parser, by sources: `tb_lex`, `tb_ast`, `tb_yield`, `tb_syntax`,
+//! `tb_forms`, `tb_expr` and `tb_parse`.
 //!
 //! They stand above those crates, since a crate with tests of its own is proved twice.
 #![tactic(auto)]
@@ -9,10 +9,4 @@ mod expressions;
 #[cfg(test)]
 mod files;
 #[cfg(test)]
-mod layouts;
-#[cfg(test)]
-mod small_programs;
-#[cfg(test)]
 mod tokens;
-#[cfg(test)]
-mod types;
