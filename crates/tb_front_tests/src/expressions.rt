@@ -282,17 +282,23 @@ fn blocks(rt: HostRuntime) -> Result<(), Fail> {
 }
 
 /// The statement or last expression at the front of a text, if one is, and how many tokens follow it.
-fn line_in(rt: &impl Abort, alloc: Global, depth: u32, text: &str) -> Option<(Line, usize)> {
+/// In a box a line is dropped by one call, which is proved once.
+fn line_in(rt: &impl Abort, alloc: Global, depth: u32, text: &str) -> Option<(Boxed<Line>, usize)> {
     let tokens = tokens_of(rt, alloc, text.as_bytes());
     match next_line(Cursor::new(tokens.list.as_slice()), alloc, depth) {
-        Ok((line, rest)) => Some((line, rest.len())),
+        Ok((line, rest)) => {
+            let Ok(line) = Boxed::new(alloc, line) else {
+                panic!(rt; "out of memory");
+            };
+            Some((line, rest.len()))
+        }
         Err(ReadError::Unexpected) => None,
         Err(ReadError::Memory) => panic!(rt; "out of memory"),
     }
 }
 
 /// Whether a line is a statement, and not the last expression of a block.
-fn is_statement(line: Line) -> bool {
+fn is_statement(line: &Line) -> bool {
     match line {
         Line::Stmt(_) => true,
         Line::Last(_) => false,
@@ -327,7 +333,9 @@ fn lines(rt: HostRuntime) -> Result<(), Fail> {
     let alloc = rt.alloc();
     for (text, depth, expected) in LINES {
         match line_in(&rt, alloc, depth, text) {
-            Some((line, left)) => assert_eq!(rt; Some((is_statement(line), left)), expected),
+            Some((line, left)) => {
+                assert_eq!(rt; Some((is_statement(line.get()), left)), expected);
+            }
             None => assert!(rt; expected.is_none()),
         }
     }
