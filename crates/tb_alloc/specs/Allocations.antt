@@ -81,3 +81,12 @@ is_live_heap a = is_heap a.kind && a.live
 -- where the live heap allocation with the least number was made
 abbrev pub least_live_heap : List Allocation → Option Span
 least_live_heap allocs = option_map (λ (a : Allocation). a.made) (find is_live_heap allocs)
+
+-- the numbers of the live ones, counted from a first number
+abbrev pub live_from : ℕ → List Allocation → List ℕ
+live_from number [] = []
+live_from number (a ∷ allocs) = cond a.live (number ∷ live_from (suc number) allocs) (live_from (suc number) allocs)
+
+-- the numbers of the live allocations, in order
+abbrev pub live_numbers : List Allocation → List ℕ
+live_numbers allocs = live_from 1 allocs

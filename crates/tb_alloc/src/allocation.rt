@@ -1,6 +1,8 @@
-ghost use Rattle.std.specs.Prelude.{◌≡◌};
-ghost use Rattle.tb_alloc.specs.Allocations.{is_live_heap, live_size};
+ghost use Rattle.std.specs.Prelude.{◌≡◌, ◌<◌, ◌^◌};
+ghost use Rattle.tb_alloc.specs.Allocations.{end_of, is_live_heap, live_size};
 ghost use Rattle.tb_alloc.specs.Check.{offset_in};
+ghost use Rattle.tb_alloc.specs.Offset.{forward_in, back_in, moved_in};
+ghost use Rattle.tb_alloc.specs.Free.{is_block};
 
 use tb_perm::Span;
 
@@ -59,5 +61,50 @@ impl Allocation {
             return None;
         }
         Some(offset as u32)
+    }
+
+    /// The address at a signed distance from an address; none where one of the two lies outside the
+    /// allocation, its end not counted as outside. Nothing wraps.
+    pub fn moved(&self, addr: u64, distance: i128) -> Option<u64>
+        requires { end_of self.now < 2 ^ 64 }
+        ensures { result ≡ moved_in self.now addr distance }
+    {
+        if distance < 0 {
+            self.back(addr, distance.unsigned_abs())
+        } else {
+            self.forward(addr, distance.unsigned_abs())
+        }
+    }
+
+    /// The address so many bytes above an address.
+    fn forward(&self, addr: u64, by: u128) -> Option<u64>
+        requires { end_of self.now < 2 ^ 64 }
+        ensures { result ≡ forward_in self.now addr by }
+    {
+        match self.offset(addr, by) {
+            Some(_) => Some(addr + by as u64),
+            None => None,
+        }
+    }
+
+    /// The address so many bytes below an address.
+    fn back(&self, addr: u64, by: u128) -> Option<u64>
+        ensures { result ≡ back_in self.now addr by }
+    {
+        let Some(offset) = self.offset(addr, 0) else {
+            return None;
+        };
+        if by > offset as u128 {
+            return None;
+        }
+        Some(addr - by as u64)
+    }
+
+    /// Whether it is a block of the heap with this base, size and alignment.
+    pub fn is_block(&self, addr: u64, size: u64, align: u64) -> bool
+        ensures { result ≡ is_block self.now addr size align }
+    {
+        let is_heap = matches!(self.kind, AllocKind::Heap);
+        is_heap && self.base == addr && self.size as u64 == size && self.align as u64 == align
     }
 }

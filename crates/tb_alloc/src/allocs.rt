@@ -1,14 +1,21 @@
-ghost use Rattle.std.specs.Prelude.{◌≡◌, ◌≢◌, ◌↔◌, ◌+◌, ◌%◌, ◌<◌, ◌≤◌, ◌^◌, ℕ, [], ◌∷◌, ◌++◌, Some, None, IfOk, IfSome, IfNone, OnOk, OnErr, IsErrOf, length};
+ghost use Rattle.std.specs.Prelude.{◌≡◌, ◌≢◌, ◌↔◌, ◌+◌, ◌%◌, ◌<◌, ◌≤◌, ◌^◌, ℕ, [], ◌∷◌, ◌++◌, Some, None, IfOk, IfSome, IfNone, OnOk, OnErr, IsErrOf, length, map};
 ghost use Rattle.std.specs.List.{All, AllPairs};
 ghost use Rattle.std.specs.Int.{next_multiple_of};
 ghost use Rattle.std.specs.Option.{option_copied, option_map};
 ghost use Rattle.tb_alloc.specs.declared.allocation.Allocation.{Allocation};
 ghost use Rattle.tb_alloc.specs.Allocations.{end_of, allocation_at, live_bytes_of, live_limit, new_allocation, dead, killed, least_live_heap};
+ghost use Rattle.tb_perm.specs.declared.tag.AllocId.{AllocId};
+ghost use Rattle.tb_alloc.specs.Allocations.{live_numbers};
 ghost use Rattle.tb_alloc.specs.Check.{live_of, check_of, IsAccess};
+ghost use Rattle.tb_alloc.specs.Offset.{offset_of};
+ghost use Rattle.tb_alloc.specs.Free.{free_of};
 
 use crate::allocation::{AllocKind, Allocation};
-use crate::entries::{at, base_from, bury, candidate_past, check_in, live_in};
-use crate::faults::{AccessFault, AllocError};
+use crate::entries::{
+    at, base_from, bury, candidate_past, check_free_in, check_in, live_in, offset_in_table,
+};
+use crate::faults::{AccessFault, AllocError, FreeFault, OffsetFault};
+use crate::live::{enter, first_heap, strike};
 use crate::ptr::Ptr;
 use std::alloc::Global;
 use std::marker::Model;
@@ -29,6 +36,8 @@ pub struct Allocs {
     candidate: u64,
     // the bytes of the live allocations
     live: u64,
+    // the numbers of the live allocations, in order
+    ids: Vec<AllocId>,
 }
 
 impl Model for Allocs {
@@ -40,7 +49,7 @@ impl Model for Allocs {
 
     ghost view = { λ s. s.entries.items };
 
-    ghost invariant = { λ s. IsTable s.entries.items s.candidate s.live };
+    ghost invariant = { λ s. IsTable s.entries.items s.candidate s.live s.ids.items };
 }
 
 impl Allocs {
@@ -52,6 +61,7 @@ impl Allocs {
             entries: Vec::new(alloc),
             candidate: FIRST,
             live: 0,
+            ids: Vec::new(alloc),
         }
     }
 
@@ -92,13 +102,11 @@ impl Allocs {
             made,
             live: true,
         };
-        match self.entries.push(entry) {
-            Ok(()) => {}
-            Err(_) => return Err(AllocError::Memory),
-        }
+        let id = AllocId(self.entries.len() as u64 + 1);
+        enter(&mut self.entries, &mut self.ids, entry, id)?;
         self.candidate = candidate;
         self.live = live;
-        Ok(AllocId(self.entries.len() as u64))
+        Ok(id)
     }
 
     /// The allocation with a number, live or dead; none where that number was not given yet. It is found
@@ -134,6 +142,31 @@ impl Allocs {
         check_in(&self.entries, ptr, size, align)
     }
 
+    /// Checks that a pointer may be moved by a distance in bytes, and gives it so moved. Any pointer may be
+    /// moved by 0. Else it needs a live allocation, and then its address and the new one lie from the
+    /// allocation's base to its end, the end included. Nothing wraps.
+    pub fn offset(&self, ptr: Ptr, distance: i128) -> Result<Ptr, OffsetFault>
+        ensures { result ≡ offset_of self.now ptr distance }
+    {
+        offset_in_table(&self.entries, ptr, distance)
+    }
+
+    /// Checks that the block of a pointer may be freed with a size and an alignment. The first of the two
+    /// faults that applies is given.
+    pub fn check_free(&self, ptr: Ptr, size: u64, align: u64) -> Result<(), FreeFault>
+        ensures { result ≡ free_of self.now ptr size align }
+    {
+        check_free_in(&self.entries, ptr, size, align)
+    }
+
+    /// The numbers of the live allocations, in order. They are lent as they are kept, and no dead
+    /// allocation is looked at.
+    pub fn live_ids(&self) -> &[AllocId]
+        ensures { map (λ (id : AllocId). id.0) result.now ≡ live_numbers self.now }
+    {
+        &self.ids
+    }
+
     /// Makes an allocation dead. Where it is dead, or its number was not given yet, nothing changes.
     pub fn kill(&mut self, id: AllocId)
         ensures value { self.new ≡ killed self.old id.0 }
@@ -142,6 +175,7 @@ impl Allocs {
         ensures count { length self.new ≡ length self.old }
     {
         self.live -= bury(&mut self.entries, id);
+        strike(&mut self.ids, id);
     }
 
     /// The bytes of all live allocations, at most 16,777,216.
@@ -153,14 +187,11 @@ impl Allocs {
     }
 
     /// Where the live heap allocation with the least number was made; none where no heap allocation is
-    /// live.
+    /// live. Only the live allocations are looked at.
     pub fn least_heap(&self) -> Option<Span>
         ensures { result ≡ least_live_heap self.now }
     {
-        self.entries
-            .iter()
-            .find(|entry| entry.is_live_heap())
-            .map(|entry| entry.made)
+        first_heap(&self.entries, &self.ids)
     }
 
     /// Where the allocations lie, live and dead: no two share an address, and at least 16 bytes stay free

@@ -1,13 +1,17 @@
 //! The entries of a table of allocations, the one with the number n at place n - 1.
 
 ghost use Rattle.std.specs.Prelude.{◌≡◌, ◌+◌, ◌<◌, ◌^◌, SomeIff, IfOk};
+ghost use Rattle.std.specs.List.{All};
 ghost use Rattle.std.specs.Int.{next_multiple_of};
+ghost use Rattle.tb_alloc.specs.declared.allocation.Allocation.{Allocation};
 ghost use Rattle.std.specs.Option.{option_copied};
-ghost use Rattle.tb_alloc.specs.Allocations.{allocation_at, live_bytes_of, killed};
+ghost use Rattle.tb_alloc.specs.Allocations.{end_of, allocation_at, live_bytes_of, killed};
 ghost use Rattle.tb_alloc.specs.Check.{live_of, check_of, check_aligned, IsAccess};
+ghost use Rattle.tb_alloc.specs.Offset.{offset_of};
+ghost use Rattle.tb_alloc.specs.Free.{free_of};
 
 use crate::allocation::Allocation;
-use crate::faults::AccessFault;
+use crate::faults::{AccessFault, FreeFault, OffsetFault};
 use crate::ptr::Ptr;
 use tb_perm::{AllocId, Prov};
 
@@ -85,6 +89,42 @@ pub fn check_in(
         return Err(AccessFault::OutOfBounds);
     };
     aligned(ptr.addr, align, offset)
+}
+
+/// The pointer at a distance, or the first fault.
+pub fn offset_in_table(entries: &[Allocation], ptr: Ptr, distance: i128) -> Result<Ptr, OffsetFault>
+    requires { All (λ (a : Allocation). end_of a < 2 ^ 64) entries.now }
+    ensures { result ≡ offset_of entries.now ptr distance }
+{
+    if distance == 0 {
+        return Ok(ptr);
+    }
+    let Some(entry) = live_in(entries, ptr.prov) else {
+        return Err(OffsetFault::Dangling);
+    };
+    match entry.moved(ptr.addr, distance) {
+        Some(addr) => Ok(Ptr { addr, ..ptr }),
+        None => Err(OffsetFault::OutOfBounds),
+    }
+}
+
+/// Whether the block of a pointer may be freed, or the first fault.
+pub fn check_free_in(
+    entries: &[Allocation],
+    ptr: Ptr,
+    size: u64,
+    align: u64,
+) -> Result<(), FreeFault>
+    ensures { result ≡ free_of entries.now ptr size align }
+{
+    let Some(entry) = live_in(entries, ptr.prov) else {
+        return Err(FreeFault::Dangling);
+    };
+    if entry.is_block(ptr.addr, size, align) {
+        Ok(())
+    } else {
+        Err(FreeFault::BadFree)
+    }
 }
 
 /// Makes the entry of a number dead, and answers how many bytes it held while it was live.

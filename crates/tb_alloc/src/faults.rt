@@ -18,3 +18,22 @@ pub enum AccessFault {
     /// The address is not a multiple of the alignment.
     Misaligned,
 }
+
+/// Why a pointer may not be moved (Rust Reference, "Behavior considered undefined": pointer arithmetic
+/// out of bounds).
+#[derive(Clone, Copy, Debug, PartialEq, Eq)]
+pub enum OffsetFault {
+    /// The pointer has no provenance, or its allocation is not live.
+    Dangling,
+    /// The address or the result lies outside the allocation, and not at its end.
+    OutOfBounds,
+}
+
+/// Why a block may not be freed, before the borrow rules are asked.
+#[derive(Clone, Copy, Debug, PartialEq, Eq)]
+pub enum FreeFault {
+    /// The pointer has no provenance, or its allocation is not live.
+    Dangling,
+    /// The allocation is not of the heap, or has another base, size or alignment.
+    BadFree,
+}

@@ -11,9 +11,10 @@ mod allocation;
 mod allocs;
 mod entries;
 mod faults;
+mod live;
 mod ptr;
 
 pub use allocation::{AllocKind, Allocation};
 pub use allocs::Allocs;
-pub use faults::{AccessFault, AllocError};
+pub use faults::{AccessFault, AllocError, FreeFault, OffsetFault};
 pub use ptr::Ptr;

@@ -7,3 +7,4 @@ pub mod Depth
 pub mod Spans
 pub mod Parts
 pub mod Forms
+pub mod Mentions

@@ -6,10 +6,12 @@
 //! as far as this language has them.
 #![tactic(auto)]
 
+mod copy;
 mod expression;
 mod form;
 mod item;
 mod leaf;
+mod mention;
 mod nesting;
 mod operator;
 mod parts;
@@ -28,7 +30,11 @@ pub use leaf::{
     BoolLiteral, ByteLiteral, CharLiteral, Ident, IntLiteral, Lifetime, Literal, Mark, Path,
     TextLiteral,
 };
-pub use nesting::depth;
+pub use mention::{Mention, mentions};
+pub use nesting::{
+    block_depth, depth, expr_depth, item_depth, kind_depth, note_depth, parameters_depth,
+    result_depth, statement_depth, type_depth,
+};
 pub use operator::{AssignOp, BinaryOp, Borrow, UnaryOp};
 pub use parts::Parts;
 pub use piece::Piece;

@@ -2,7 +2,7 @@
 
 ghost use Rattle.std.specs.Prelude.{◌≡◌, ◌+◌, map};
 ghost use Rattle.std.specs.Option.{option_map};
-ghost use Rattle.tb_ast.specs.Depth.{capped, deepest, or_none, type_depth, argument_depth, arguments_depth, turbofish_depth, note_depth, below, below_operator, depths_in, expr_depth, else_depth, field_depth, stmt_depth, block_depth, initializer_depth, member_depth, parameter_depth, result_depth, foreign_depth, kind_depth, depth_of};
+ghost use Rattle.tb_ast.specs.Depth.{capped, deepest, or_none, type_depth, argument_depth, arguments_depth, turbofish_depth, note_depth, below, below_operator, depths_in, expr_depth, else_depth, field_depth, stmt_depth, block_depth, initializer_depth, member_depth, parameter_depth, result_depth, foreign_depth, kind_depth, item_depth, depth_of};
 
 use crate::expression::{Block, Else, Expr, FieldValue, Initializer, Stmt};
 use crate::item::{Field, ForeignFunction, Item, ItemKind, Parameter, ResultType, Tree};
@@ -16,9 +16,11 @@ fn one_more(depth: u32) -> u32
     if depth == u32::MAX { depth } else { depth + 1 }
 }
 
+/// How deep the types in a type lie in one another, itself included; like all depths 2^32 - 1 where
+/// it is greater.
 #[cycle(types)]
-fn type_depth(ty: &TypeExpr) -> u32
-    ensures { result ≡ capped (type_depth ty.now) }
+pub fn type_depth(ty: &TypeExpr) -> u32
+    ensures depth { result ≡ capped (type_depth ty.now) }
 {
     match ty {
         TypeExpr::Unit { .. } => 1,
@@ -82,8 +84,9 @@ fn turbofish_depth(turbofish: &Option<Turbofish>) -> u32
     }
 }
 
-fn note_depth(note: &Option<TypeNote>) -> u32
-    ensures { result ≡ capped (note_depth note.now) }
+/// The depth of the type behind a name, or 0 where there is none.
+pub fn note_depth(note: &Option<TypeNote>) -> u32
+    ensures depth { result ≡ capped (note_depth note.now) }
 {
     match note {
         Some(note) => type_depth(&note.ty),
@@ -91,9 +94,11 @@ fn note_depth(note: &Option<TypeNote>) -> u32
     }
 }
 
+/// How deep the nodes of an expression lie in one another, itself included. A bare block that stands
+/// as an expression is one node.
 #[cycle(expressions)]
-fn expr_depth(e: &Expr) -> u32
-    ensures { result ≡ capped (expr_depth e.now) }
+pub fn expr_depth(e: &Expr) -> u32
+    ensures depth { result ≡ capped (expr_depth e.now) }
 {
     match e {
         Expr::Block(body) => block_depth(body),
@@ -238,9 +243,10 @@ fn otherwise_depth(otherwise: &Option<Else>) -> u32
     }
 }
 
+/// How deep the nodes of a block lie in one another, itself included.
 #[cycle(expressions)]
-fn block_depth(block: &Block) -> u32
-    ensures { result ≡ capped (block_depth block.now) }
+pub fn block_depth(block: &Block) -> u32
+    ensures depth { result ≡ capped (block_depth block.now) }
 {
     one_more(statements_depth(block.statements.as_slice()).max(optional_depth(&block.last)))
 }
@@ -256,9 +262,10 @@ fn statements_depth(statements: &[Stmt]) -> u32
     depth
 }
 
+/// How deep the nodes of a statement lie in one another, itself included.
 #[cycle(expressions)]
-fn statement_depth(statement: &Stmt) -> u32
-    ensures { result ≡ capped (stmt_depth statement.now) }
+pub fn statement_depth(statement: &Stmt) -> u32
+    ensures depth { result ≡ capped (stmt_depth statement.now) }
 {
     match statement {
         Stmt::Empty { .. } => 1,
@@ -288,8 +295,9 @@ fn members_depth(fields: &[Field]) -> u32
     depth
 }
 
-fn parameters_depth(parameters: &[Parameter]) -> u32
-    ensures { result ≡ capped (deepest (map parameter_depth parameters.now)) }
+/// The greatest depth of a parameter's type.
+pub fn parameters_depth(parameters: &[Parameter]) -> u32
+    ensures depth { result ≡ capped (deepest (map parameter_depth parameters.now)) }
 {
     let mut depth = 0;
     for parameter in parameters {
@@ -298,8 +306,9 @@ fn parameters_depth(parameters: &[Parameter]) -> u32
     depth
 }
 
-fn result_depth(output: &Option<ResultType>) -> u32
-    ensures { result ≡ capped (result_depth output.now) }
+/// The depth of a result's type, or 0 where there is none.
+pub fn result_depth(output: &Option<ResultType>) -> u32
+    ensures depth { result ≡ capped (result_depth output.now) }
 {
     match output {
         Some(output) => type_depth(&output.ty),
@@ -317,8 +326,10 @@ fn foreign_depth(functions: &[ForeignFunction]) -> u32
     depth
 }
 
-fn kind_depth(kind: &ItemKind) -> u32
-    ensures { result ≡ capped (kind_depth kind.now) }
+/// The greatest depth of a node of an item: of the types of fields, of a head's types, and of a
+/// function's body.
+pub fn kind_depth(kind: &ItemKind) -> u32
+    ensures depth { result ≡ capped (kind_depth kind.now) }
 {
     match kind {
         ItemKind::Use(_) => 0,
@@ -328,6 +339,13 @@ fn kind_depth(kind: &ItemKind) -> u32
             .max(block_depth(&function.body)),
         ItemKind::Extern(block) => foreign_depth(block.functions.as_slice()),
     }
+}
+
+/// The greatest depth of a node of an item.
+pub fn item_depth(item: &Item) -> u32
+    ensures depth { result ≡ capped (item_depth item.now) }
+{
+    kind_depth(&item.kind)
 }
 
 /// The greatest depth of a node of a tree, or 2^32 - 1 where it is greater.
@@ -340,7 +358,7 @@ pub fn depth(tree: &Tree) -> u32
 {
     let mut depth = 0;
     for item in tree.items.as_slice() {
-        depth = kind_depth(&item.kind).max(depth);
+        depth = item_depth(item).max(depth);
     }
     depth
 }

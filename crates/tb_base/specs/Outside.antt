@@ -12,7 +12,7 @@ use Rattle.tb_base.specs.declared.fault.FileError.TheVariants.{Fault, Memory}
 abbrev pub Rose : ℕ → ℕ → Type 0
 Rose before now = min (before + 1) (2 ^ 64 - 1) ≤ now
 
--- a call counts where it answers a fault, and nowhere else
+-- a call counts where it returns a fault, and nowhere else
 abbrev pub Counts : {A : Type 0} → ℕ → ℕ → Result A TheFault → Type 0
 Counts before now (Ok answer) = now ≡ before
 Counts before now (Err fault) = Rose before now
@@ -58,7 +58,7 @@ abbrev pub bytes_under : List (List ℕ × List ℕ) → List ℕ → Option (Li
 bytes_under [] name = None
 bytes_under (file ∷ files) name = if bytes_eq file.0 name then Some file.1 else bytes_under files name
 
--- An `open` leaves the files as they are, and was asked for this name, unless memory ran out. If it answers Ok,
+-- An `open` leaves the files as they are, and was asked for this name, unless memory ran out. If it returns Ok,
 -- what is left are the bytes under this name.
 abbrev pub OpensOne : FilesTold → FilesTold → List ℕ → {A : Type 0} → Result A FileError → Type 0
 OpensOne old new name (Ok answer) = (bytes_under old.files name ≡ Some new.left) × (new.files ≡ old.files) × (new.asked ≡ old.asked ++ name ∷ [])

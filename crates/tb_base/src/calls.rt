@@ -25,7 +25,7 @@ impl Calls {
         }
     }
 
-    /// Counts a call, and answers whether it is to fail.
+    /// Counts a call, and returns whether it is to fail.
     pub fn begin(&mut self) -> bool
         ensures fails { IsTrue result ↔ Contains self.old.fail.items (counted self.old.made) }
         ensures made { self.new.made ≡ counted self.old.made }

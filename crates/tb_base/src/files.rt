@@ -6,7 +6,7 @@ use crate::fault::{Fault, FileError};
 /// Named files, of which one at a time is read from its beginning to its end.
 ///
 /// The object counts its faults, from 0 to 2^64 - 1, where the count stops. The count never
-/// falls, and a fault is answered only where it rose or stands at that last value.
+/// falls, and a fault is returned only where it rose or stands at that last value.
 pub trait Files {
     /// What it tells of itself, if it tells anything.
     ghost told: { Self → Option FilesTold };
@@ -19,7 +19,7 @@ pub trait Files {
         ensures told { Opens (told self.old) (told self.new) name.now result }
         ensures count { CountsOpening (faults self.old) (faults self.new) result };
 
-    /// Reads the next bytes of the open file into the front of the buffer, and answers how many.
+    /// Reads the next bytes of the open file into the front of the buffer, and returns how many.
     /// 0 is the end of the file.
     fn take(&mut self, buffer: &mut [u8]) -> Result<usize, Fault>
         requires { 0 < length buffer.old }

@@ -15,7 +15,7 @@ mod real;
 mod sink;
 mod source;
 
-pub use fault::{Fault, FileError, Memory};
+pub use fault::{Fault, FileError};
 pub use files::Files;
 pub use memory_files::MemFiles;
 pub use memory_sink::MemSink;

@@ -3,10 +3,10 @@ ghost use Rattle.tb_base.specs.Outside.{bytes_under};
 ghost use Rattle.tb_base.specs.Memory.{named};
 
 use crate::calls::Calls;
-use crate::fault::{Fault, FileError, Memory};
+use crate::fault::{Fault, FileError};
 use crate::files::Files;
 use crate::memory_source::give;
-use std::alloc::Global;
+use std::alloc::{AllocError, Global};
 use std::marker::Model;
 
 /// Named files in memory. Chosen calls fail. Of files with one name the first is read.
@@ -60,7 +60,7 @@ fn copy_under(
     alloc: Global,
     files: &[(String, Vec<u8>)],
     name: &str,
-) -> Result<Option<Vec<u8>>, Memory>
+) -> Result<Option<Vec<u8>>, AllocError>
     ensures { IfOk result (λ found. option_map (λ bytes. bytes.items) found ≡ bytes_under (named files.now) name.now) }
 {
     for (file, bytes) in files {
@@ -72,7 +72,7 @@ fn copy_under(
 }
 
 /// Adds a name to those asked for.
-fn push_name(alloc: Global, asked: &mut Vec<String>, name: &str) -> Result<(), Memory>
+fn push_name(alloc: Global, asked: &mut Vec<String>, name: &str) -> Result<(), AllocError>
     ensures ok { OnOk result (map string_bytes asked.new.items ≡ map string_bytes asked.old.items ++ name.now ∷ []) }
     ensures err { OnErr result (asked.new.items ≡ asked.old.items) }
 {

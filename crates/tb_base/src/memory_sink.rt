@@ -1,9 +1,9 @@
 ghost use Rattle.std.specs.Prelude.{◌≡◌, ◌≤◌, ◌<◌, ◌+◌, ◌↔◌, ◌⊎◌, ℕ, [], min, length, Some, IfOk, IsErr, OnErr, Contains};
 
 use crate::calls::Calls;
-use crate::fault::{Fault, Memory};
+use crate::fault::Fault;
 use crate::sink::Sink;
-use std::alloc::Global;
+use std::alloc::{AllocError, Global};
 use std::marker::Model;
 
 /// A sink that keeps its bytes in memory. Chosen calls of it fail, and so does one for whose bytes
@@ -30,7 +30,12 @@ impl Model for MemSink {
 impl MemSink {
     /// An empty sink with room for `room` bytes, which takes at most `most` bytes in one call, and
     /// whose calls with the numbers in `fail` fail. Calls are counted from 1.
-    pub fn new(alloc: Global, room: usize, most: usize, fail: Vec<u64>) -> Result<MemSink, Memory>
+    pub fn new(
+        alloc: Global,
+        room: usize,
+        most: usize,
+        fail: Vec<u64>,
+    ) -> Result<MemSink, AllocError>
         requires { 0 < most }
         ensures { IfOk result (λ sink. sink ≡ record { bytes = []; room = room; most = most; fail = fail.items; calls = 0; faults = 0 }) }
     {

@@ -45,7 +45,7 @@ impl MemSource {
     }
 }
 
-/// Copies the bytes from `at` on into the front of the buffer, as many as fit, and answers how many.
+/// Copies the bytes from `at` on into the front of the buffer, as many as fit, and returns how many.
 pub fn give(bytes: &[u8], at: usize, buffer: &mut [u8]) -> usize
     requires { at ≤ length bytes.now }
     ensures count { result ≡ min (length buffer.old) (length (drop at bytes.now)) }

@@ -2,11 +2,11 @@
 //! of what is read or written.
 ghost use Rattle.std.specs.Prelude.{◌≡◌, None, IfOk};
 
-use crate::fault::{Fault, FileError, Memory};
+use crate::fault::{Fault, FileError};
 use crate::files::Files;
 use crate::sink::Sink;
 use crate::source::Source;
-use std::alloc::Global;
+use std::alloc::{AllocError, Global};
 use std::io::{BufReader, Read, Write};
 use std::{fs, rt};
 
@@ -70,12 +70,12 @@ pub struct RealInput<R: Read + Drop> {
 }
 
 impl<R: Read + Drop> RealInput<R> {
-    pub fn new(alloc: Global, reader: R) -> Result<Self, Memory>
+    pub fn new(alloc: Global, reader: R) -> Result<Self, AllocError>
         ensures { IfOk result (λ input. input.faults ≡ 0) }
     {
         match BufReader::new(alloc, reader) {
             Ok(reader) => Ok(RealInput { reader, faults: 0 }),
-            Err(_) => Err(Memory),
+            Err(_) => Err(AllocError),
         }
     }
 }

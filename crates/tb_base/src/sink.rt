@@ -13,7 +13,7 @@ pub trait Sink {
     /// How many calls have failed so far.
     ghost faults: { Self → ℕ };
 
-    /// Puts the first bytes of the piece, at least one, and answers how many.
+    /// Puts the first bytes of the piece, at least one, and returns how many.
     fn put(&mut self, piece: &[u8]) -> Result<usize, Fault>
         requires { 0 < length piece.now }
         ensures some { IfOk result (λ count. 0 < count) }

@@ -13,7 +13,7 @@ pub trait Source {
     /// How many calls have failed so far.
     ghost faults: { Self → ℕ };
 
-    /// Takes the next bytes into the front of the buffer, and answers how many. 0 is the end.
+    /// Takes the next bytes into the front of the buffer, and returns how many. 0 is the end.
     fn take(&mut self, buffer: &mut [u8]) -> Result<usize, Fault>
         requires { 0 < length buffer.old }
         ensures bound { IfOk result (λ count. count ≤ length buffer.new) }

@@ -1,11 +1,13 @@
 -- The provenances of runs, each once.
-use Rattle.std.proofs.Common.{◌≡◌, ◌⊎◌, inl, inr, ℕ, zero, suc, ◌-◌, ◌<◌, List, [], ◌∷◌, ◌++◌, replicate, Option, Some, None, refl, ap, sym, ◌∙◌, subst, arith, append_assoc}
-use Rattle.std.specs.List.{Contains}
+use Rattle.std.proofs.Common.{◌≡◌, ◌⊎◌, inl, inr, ℕ, zero, suc, ◌-◌, ◌<◌, ◌≤◌, nat_lt, map, List, [], ◌∷◌, ◌++◌, replicate, Option, Some, None, refl, ap, sym, ◌∙◌, subst, arith, append_assoc}
+use Rattle.std.specs.List.{Contains, slice_get}
+use Rattle.std.proofs.lemmas.Bool.{cases_Bool, ltb-true, ltb-false}
 use Rattle.std.proofs.lemmas.List.{length-replicate, get_or-replicate}
 use Rattle.std.proofs.lemmas.List.Elements.{Contains-append_left, Contains-append_right, Contains-append_cases}
 use Rattle.tb_perm.specs.declared.tag.Prov.{Prov}
 use Rattle.tb_ranges.specs.declared.run.Run.{Run}
 use Rattle.tb_ranges.specs.Runs.{expanded, GoOn}
+use Rattle.tb_bytes.specs.Bytes.{AreNextRuns}
 use Rattle.tb_bytes.specs.Parts.{with_prov, listed}
 
 here : {A : Type 0} (x : A) (xs : List A) → Contains (x ∷ xs) x
@@ -56,3 +58,43 @@ has_listed (x ∷ xs) prov has = elim (Contains-append_cases (replicate (x.hi - 
 -- what the loop over runs keeps
 pub listed_more : (front rest : List Prov) (runs : List (Run (Option Prov))) (value : Option Prov) (prov : Prov) → value ≡ Some prov → (front ++ prov ∷ []) ++ rest ≡ front ++ with_prov value rest
 listed_more front rest runs value prov is = append_assoc front (prov ∷ []) rest ∙ ap (λ v. front ++ with_prov v rest) (sym is)
+
+-- the place of an item
+place_of : {A : Type 0} (xs : List A) (x : A) → Contains xs x → (k : ℕ) × (slice_get xs k ≡ Some x)
+place_of [] x has = absurd (omega (arith, has.1))
+place_of (y ∷ ys) x has = elim (first_or_later y x ys has) [
+  | inl is ↦ (0, ap (λ z. Some z) is)
+  | inr has ↦ let found = place_of ys x has in (suc found.0, found.1)
+]
+
+is_in : {A : Type 0} (xs : List A) (k : ℕ) (x : A) → slice_get xs k ≡ Some x → Contains xs x
+is_in [] k x is = absurd (cc)
+is_in (y ∷ ys) zero x is = let same : y ≡ x = cc in subst (Contains (y ∷ ys)) same (here y ys)
+is_in (y ∷ ys) (suc k) x is = later y x ys (is_in ys k x is)
+
+-- a provenance from a place on is that of a next run
+pub met : (at : ℕ) (provs : List (Option Prov)) (runs : List (ℕ × Prov)) (k : ℕ) (prov : Prov) → AreNextRuns at provs runs → at ≤ k → slice_get provs k ≡ Some (Some prov) → Contains (map (λ (run : ℕ × Prov). run.1) runs) prov
+met at provs [] k prov are from is = absurd (are k prov from is)
+met at provs (run ∷ runs) k prov are from is = elim (cases_Bool (nat_lt k are.0.from)) [
+  | inl e ↦ let bare = are.0.bare k from (ltb-true _ _ e) in absurd (cc (bare, is))
+  | inr e ↦ elim (cases_Bool (nat_lt k run.0)) [
+    | inl f ↦
+        let has = are.0.same k (ltb-false _ _ e) (ltb-true _ _ f) in
+        let same : run.1 ≡ prov = cc (has, is) in
+        subst (Contains (map (λ (r : ℕ × Prov). r.1) (run ∷ runs))) same (here run.1 (map (λ (r : ℕ × Prov). r.1) runs))
+    | inr f ↦ later run.1 prov (map (λ (r : ℕ × Prov). r.1) runs) (met run.0 provs runs k prov are.1 (ltb-false _ _ f) is)
+  ]
+]
+
+pub all_met : (provs : List (Option Prov)) (runs : List (ℕ × Prov)) (prov : Prov) → AreNextRuns 0 provs runs → Contains provs (Some prov) → Contains (map (λ (run : ℕ × Prov). run.1) runs) prov
+all_met provs runs prov are has = let found = place_of provs (Some prov) has in met 0 provs runs found.0 prov are (omega arith) found.1
+
+-- and no next run has another
+pub only_met : (at : ℕ) (provs : List (Option Prov)) (runs : List (ℕ × Prov)) (prov : Prov) → AreNextRuns at provs runs → Contains (map (λ (run : ℕ × Prov). run.1) runs) prov → Contains provs (Some prov)
+only_met at provs [] prov are has = absurd (omega (arith, has.1))
+only_met at provs (run ∷ runs) prov are has = elim (first_or_later run.1 prov (map (λ (r : ℕ × Prov). r.1) runs) has) [
+  | inl is ↦
+      let there = are.0.same are.0.from (omega arith) are.0.some in
+      subst (λ p. Contains provs (Some p)) is (is_in provs are.0.from (Some run.1) there)
+  | inr has ↦ only_met run.0 provs runs prov are.1 has
+]

@@ -52,40 +52,17 @@ more_alike bytes from to first next d order within is same_init same_prov alike 
 pub length_part : {A : Type 0} (xs : List A) (lo hi : ℕ) → hi ≤ length xs → length (slice_range xs lo hi) ≡ hi - lo
 length_part xs lo hi within = omega (arith, length-take-le (hi - lo) (drop lo xs) (omega (arith, length-drop lo xs)))
 
-length_marks : {A : Type 0} (f : ByteVal → A) (bytes : List ByteVal) (lo from : ℕ) → from ≤ length bytes → length (map f (take from bytes)) ≡ lo + from - lo
-length_marks f bytes lo from within = omega (arith, length-map (take from bytes) f, length-take-le from bytes within)
+-- the runs of the marks of bytes, written over the marks that were there
+pub written : {A : Type 0} (f : ByteVal → A) (lo : ℕ) (bytes : List ByteVal) (values old new : List A) → values ≡ map f bytes → new ≡ splice old lo (lo + length values) values → new ≡ splice old lo (lo + length bytes) (map f bytes)
+written f lo bytes values old new are is =
+    let many : length values ≡ length bytes = ap length are ∙ length-map bytes f in
+    is ∙ ap (λ xs. splice old lo (lo + length values) xs) are ∙ ap (λ n. splice old lo (lo + n) (map f bytes)) many
 
--- a stretch of alike bytes behind those that are marked
-pub marked_more : {A : Type 0} (f : ByteVal → A) (lo from to : ℕ) (old now new : List A) (bytes : List ByteVal) (byte : ByteVal) → from ≤ to → to ≤ length bytes → lo + length bytes ≤ length old → now ≡ splice old lo (lo + from) (map f (take from bytes)) → new ≡ splice now (lo + from) (lo + to) (replicate (lo + to - (lo + from)) (f byte)) → map f (slice_range bytes from to) ≡ replicate (length (slice_range bytes from to)) (f byte) → new ≡ splice old lo (lo + to) (map f (take to bytes))
-marked_more f lo from to old now new bytes byte order within fits was is alike =
-    let part = slice_range bytes from to in
-    let many : length part ≡ lo + to - (lo + from) = omega (arith, length_part bytes from to within) in
-    let whole : from + (to - from) ≡ to = omega arith in
-    let marks : map f (take from bytes) ++ replicate (lo + to - (lo + from)) (f byte) ≡ map f (take to bytes) =
-    ap (λ xs. map f (take from bytes) ++ xs) (sym (alike ∙ ap (λ n. replicate n (f byte)) many))
-    ∙ sym (map-append f (take from bytes) part)
-    ∙ ap (map f) (sym (take-add from (to - from) bytes) ∙ ap (λ n. take n bytes) whole)
-    in
-    is
-    ∙ ap (λ xs. splice xs (lo + from) (lo + to) (replicate (lo + to - (lo + from)) (f byte))) was
-    ∙ splice-splice old (map f (take from bytes)) (replicate (lo + to - (lo + from)) (f byte)) lo (lo + from) (lo + to) (omega arith) (omega arith) (omega arith) (length_marks f bytes lo from (omega arith))
-    ∙ ap (splice old lo (lo + to)) marks
-
--- only places of the bytes are marked
-pub marked_only : {A : Type 0} (f : ByteVal → A) (lo from : ℕ) (old now : List A) (bytes : List ByteVal) → from ≤ length bytes → lo + length bytes ≤ length old → now ≡ splice old lo (lo + from) (map f (take from bytes)) → OnlyChanges lo (lo + length bytes) old now
-marked_only f lo from old now bytes within fits is =
-    subst (OnlyChanges lo (lo + length bytes) old) (sym is)
-    (wider lo (lo + from) lo (lo + length bytes) old (splice old lo (lo + from) (map f (take from bytes))) (omega arith) (omega arith) (only_spliced old (map f (take from bytes)) lo (lo + from) (omega arith) (omega arith) (length_marks f bytes lo from within)))
+pub length_written : {A : Type 0} (f : ByteVal → A) (lo : ℕ) (bytes : List ByteVal) → length (map f bytes) ≡ lo + length bytes - lo
+length_written f lo bytes = omega (arith, length-map bytes f)
 
 -- all bytes are marked
 pub marked_all : {A : Type 0} (f : ByteVal → A) (lo from : ℕ) (old now : List A) (bytes : List ByteVal) → length bytes ≤ from → from ≤ length bytes → now ≡ splice old lo (lo + from) (map f (take from bytes)) → now ≡ splice old lo (lo + length bytes) (map f bytes)
 marked_all f lo from old now bytes past within is =
     let all : from ≡ length bytes = omega arith in
     is ∙ ap (λ xs. splice old lo (lo + from) (map f xs)) (take_all from bytes past) ∙ ap (λ n. splice old lo (lo + n) (map f bytes)) all
-
--- the bytes before a place are marked
-pub record AreMarked (lo : ℕ) (bytes : List ByteVal) (old_init init : List Bool) (old_provs provs : List (Option Prov)) (from : ℕ) : Type 0 where
-  pub bound : from ≤ length bytes
-  pub init_is : init ≡ splice old_init lo (lo + from) (map is_init (take from bytes))
-  pub provs_are : provs ≡ splice old_provs lo (lo + from) (map prov_of (take from bytes))
-  pub clear : IsClear init provs

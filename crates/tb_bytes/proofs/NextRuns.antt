@@ -23,10 +23,15 @@ slice_get-behind : {A : Type 0} (n k : ℕ) (x : A) (ys : List A) → slice_get 
 slice_get-behind zero k x ys = let e : 0 + k ≡ k = omega arith in ap (slice_get ys) e
 slice_get-behind (suc n) k x ys = let e : suc n + k ≡ suc (n + k) = omega arith in ap (slice_get (x ∷ (replicate n x ++ ys))) e ∙ slice_get-behind n k x ys
 
+slice_get-row : {A : Type 0} (n k : ℕ) (x : A) (ys : List A) → k < n → slice_get (replicate n x ++ ys) k ≡ Some x
+slice_get-row zero k x ys below = absurd (omega arith)
+slice_get-row (suc n) zero x ys below = refl
+slice_get-row (suc n) (suc k) x ys below = slice_get-row n k x ys (omega arith)
+
 drop-behind : {A : Type 0} (n k : ℕ) (x : A) (ys : List A) → drop (n + k) (replicate n x ++ ys) ≡ drop k ys
 drop-behind n k x ys = ap (λ m. drop (m + k) (replicate n x ++ ys)) (sym (length-replicate n x)) ∙ drop-append-add (replicate n x) ys k
 
--- what `IsNextRun` says, of the values from the place on
+-- what `IsNextRun` says, in parts of the list of the values from the place on
 record NextIn (at : ℕ) (values : List (Option Prov)) (end : ℕ) (prov : Prov) : Type 0 where
   pub gap : ℕ
   pub more : ℕ
@@ -102,11 +107,22 @@ from_place at whole None none =
     none (k - at) prov (slice_get-drop at (k - at) whole ∙ ap (slice_get whole) there ∙ is)
 from_place at whole (Some run) next =
     let there : at + (run.0 - at) ≡ run.0 = omega (arith, next.ends) in
+    let row = replicate (suc next.more) (Some run.1) ++ drop (run.0 - at) (drop at whole) in
     record {
-      gap = next.gap;
-      more = next.more;
-      places = next.places ∙ ap (λ xs. replicate next.gap None ++ (replicate (suc next.more) (Some run.1) ++ xs)) (drop-drop (run.0 - at) at whole ∙ ap (λ m. drop m whole) there);
-      ends = next.ends;
+      from = at + next.gap;
+      order = omega arith;
+      some = omega (arith, next.ends);
+      bare = λ k from to.
+          let in_all : at + (k - at) ≡ k = omega arith in
+          sym (slice_get-drop at (k - at) whole ∙ ap (slice_get whole) in_all) ∙ ap (λ xs. slice_get xs (k - at)) next.places ∙ slice_get-row next.gap (k - at) None row (omega arith);
+      same = λ k from to.
+          let in_all : at + (k - at) ≡ k = omega arith in
+          let in_row : next.gap + (k - at - next.gap) ≡ k - at = omega arith in
+          sym (slice_get-drop at (k - at) whole ∙ ap (slice_get whole) in_all)
+          ∙ ap (λ xs. slice_get xs (k - at)) next.places
+          ∙ ap (slice_get (replicate next.gap None ++ row)) (sym in_row)
+          ∙ slice_get-behind next.gap (k - at - next.gap) None row
+          ∙ slice_get-row (suc next.more) (k - at - next.gap) (Some run.1) (drop (run.0 - at) (drop at whole)) (omega (arith, next.ends));
       other = λ e. next.other (slice_get-drop at (run.0 - at) whole ∙ ap (slice_get whole) there ∙ e);
     }
 

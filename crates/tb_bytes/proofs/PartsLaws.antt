@@ -1,7 +1,7 @@
 -- The bytes that values, states and provenances stand for.
-use Rattle.std.proofs.Common.{◌≡◌, ℕ, zero, suc, ◌-◌, ◌≤◌, Bool, true, false, List, [], ◌∷◌, ◌++◌, length, map, take, drop, replicate, Option, Some, None, refl, ap, sym, ◌∙◌, subst, arith}
+use Rattle.std.proofs.Common.{◌≡◌, ℕ, zero, suc, ◌+◌, ◌-◌, ◌≤◌, Bool, true, false, List, [], ◌∷◌, ◌++◌, length, map, take, drop, replicate, Option, Some, None, refl, ap, sym, ◌∙◌, subst, arith}
 use Rattle.std.specs.List.{slice_range, slice_get, splice}
-use Rattle.std.proofs.lemmas.List.{length-take-le, length-drop, length-replicate}
+use Rattle.std.proofs.lemmas.List.{length-take-le, length-drop, length-replicate, take_all}
 use Rattle.tb_perm.specs.declared.tag.Prov.{Prov}
 use Rattle.tb_bytes.specs.declared.byte_val.ByteVal.{ByteVal}
 use Rattle.tb_bytes.specs.declared.byte_val.ByteVal.TheVariants.{Uninit, Init}
@@ -173,3 +173,34 @@ marks_only lo hi vs is js ps qs old new first second = record {
       byte_list-drop hi vs js qs ∙ ap (λ xs. byte_list (drop hi vs) xs (drop hi qs)) first.behind ∙ ap (byte_list (drop hi vs) (drop hi is)) second.behind ∙ sym (byte_list-drop hi vs is ps);
   size = length_parts vs js qs new ∙ sym (length_parts vs is ps old);
 }
+
+-- of a list that goes on, the part that there are values for
+byte_list-front : (n : ℕ) (vs : List ℕ) (is : List Bool) (ps : List (Option Prov)) → byte_list (take n vs) (take n is) (take n ps) ≡ byte_list (take n vs) is ps
+byte_list-front zero vs is ps = refl
+byte_list-front (suc n) [] is ps = refl
+byte_list-front (suc n) (v ∷ vs) [] ps = refl
+byte_list-front (suc n) (v ∷ vs) (i ∷ is) [] = refl
+byte_list-front (suc n) (v ∷ vs) (i ∷ is) (p ∷ ps) = ap (λ bytes. byte_of v i p ∷ bytes) (byte_list-front n vs is ps)
+
+pub byte_list-part : (lo hi : ℕ) (vs : List ℕ) (is : List Bool) (ps : List (Option Prov)) → byte_list (slice_range vs lo hi) (drop lo is) (drop lo ps) ≡ slice_range (byte_list vs is ps) lo hi
+byte_list-part lo hi vs is ps =
+    sym
+    (ap (take (hi - lo)) (byte_list-drop lo vs is ps)
+    ∙ byte_list-take (hi - lo) (drop lo vs) (drop lo is) (drop lo ps)
+    ∙ byte_list-front (hi - lo) (drop lo vs) (drop lo is) (drop lo ps))
+
+-- the marks of bytes
+pub clear_of : (bytes : List ByteVal) → IsClear (map is_init bytes) (map prov_of bytes)
+clear_of [] = tt
+clear_of (Uninit ∷ bytes) = (λ e. refl, clear_of bytes)
+clear_of (Init value prov ∷ bytes) = (λ e. absurd (cc), clear_of bytes)
+
+-- marks at places without a provenance
+pub clear_remarked : (lo hi : ℕ) (is js : List Bool) (ps : List (Option Prov)) → length js ≡ hi - lo → IsClear is ps → IsClear (splice is lo hi js) (splice ps lo hi (replicate (hi - lo) None))
+clear_remarked lo hi is js ps long clear = clear-splice lo hi is js ps (replicate (hi - lo) None) clear (clear_bare (hi - lo) js long)
+
+pub alike_marks : {A : Type 0} (f : ByteVal → A) (lo n : ℕ) (bytes : List ByteVal) (x : A) → n ≡ length bytes → map f (slice_range bytes 0 n) ≡ replicate (length (slice_range bytes 0 n)) x → replicate (lo + length bytes - lo) x ≡ map f bytes
+alike_marks f lo n bytes x all alike =
+    let whole : slice_range bytes 0 n ≡ bytes = take_all (n - 0) bytes (omega arith) in
+    let many : length bytes ≡ lo + length bytes - lo = omega arith in
+    ap (λ m. replicate m x) (sym many) ∙ sym (ap (map f) (sym whole) ∙ alike ∙ ap (λ xs. replicate (length xs) x) whole)

@@ -82,3 +82,7 @@ module _ {A : Type 0} where
       ∙ append_assoc (take lo xs) ys (y ∷ drop (suc at) xs)
       ∙ ap (λ zs. take lo xs ++ zs) (sym (append_assoc ys (y ∷ []) (drop (suc at) xs)))
       ∙ ap (λ k. take lo xs ++ ((ys ++ y ∷ []) ++ drop k xs)) (sym next)
+
+  -- a part that is replaced again
+  pub splice_again : (lo hi : ℕ) (xs ys zs : List A) → OnlyChanges lo hi xs ys → splice ys lo hi zs ≡ splice xs lo hi zs
+  splice_again lo hi xs ys zs only = ap (λ front. front ++ (zs ++ drop hi ys)) only.before ∙ ap (λ back. take lo xs ++ (zs ++ back)) only.behind

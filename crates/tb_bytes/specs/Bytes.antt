@@ -30,14 +30,20 @@ pub record OnlyChanges {A : Type 0} (lo hi : ℕ) (old new : List A) : Type 0 wh
 abbrev pub HasNoProv : ℕ → List ByteVal → Type 0
 HasNoProv at bytes = (k : ℕ) (prov : Prov) → at ≤ k → slice_get (map prov_of bytes) k ≢ Some (Some prov)
 
--- from a place on, first some places without a provenance, then one or more with this one up to `end`,
--- where another begins or all end
+-- the next run of a provenance from a place on: no place from `at` to before `from` has one, all from there
+-- to before `end` have this one, and the place `end` has another value or lies outside
 pub record IsNextRun (at : ℕ) (provs : List (Option Prov)) (end : ℕ) (prov : Prov) : Type 0 where
-  pub gap : ℕ
-  pub more : ℕ
-  pub places : drop at provs ≡ replicate gap None ++ (replicate (suc more) (Some prov) ++ drop end provs)
-  pub ends : end ≡ at + (gap + suc more)
+  pub from : ℕ
+  pub order : at ≤ from
+  pub some : from < end
+  pub bare : (k : ℕ) → at ≤ k → k < from → slice_get provs k ≡ Some None
+  pub same : (k : ℕ) → from ≤ k → k < end → slice_get provs k ≡ Some (Some prov)
   pub other : slice_get provs end ≢ Some (Some prov)
+
+-- the next runs one after another from a place on, each by its end and its provenance, until there is none
+abbrev pub AreNextRuns : ℕ → List (Option Prov) → List (ℕ × Prov) → Type 0
+AreNextRuns at provs [] = (k : ℕ) (prov : Prov) → at ≤ k → slice_get provs k ≢ Some (Some prov)
+AreNextRuns at provs (run ∷ runs) = IsNextRun at provs run.0 run.1 × AreNextRuns run.0 provs runs
 
 -- a provenance stands before another: of a lesser allocation, or of the same and a lesser tag
 abbrev pub IsBefore : Prov → Prov → Type 0

@@ -13,14 +13,14 @@ pub enum ByteVal {
 
 impl ByteVal {
     /// Whether the byte has a value.
-    pub(crate) fn is_init(self) -> bool
+    pub fn is_init(self) -> bool
         ensures { result ≡ is_init self }
     {
         matches!(self, ByteVal::Init(_, _))
     }
 
     /// The value; 0 for an uninitialised byte.
-    pub(crate) fn value(self) -> u8
+    pub fn value(self) -> u8
         ensures { result ≡ value_of self }
     {
         match self {
@@ -30,7 +30,7 @@ impl ByteVal {
     }
 
     /// The provenance, if there is one.
-    pub(crate) fn prov(self) -> Option<Prov>
+    pub fn prov(self) -> Option<Prov>
         ensures { result ≡ prov_of self }
     {
         match self {

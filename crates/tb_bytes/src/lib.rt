@@ -8,4 +8,4 @@ mod marks;
 mod origins;
 
 pub use byte_val::ByteVal;
-pub use bytes::{Bytes, Memory};
+pub use bytes::Bytes;

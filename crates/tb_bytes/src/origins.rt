@@ -6,13 +6,12 @@ ghost use Rattle.tb_ranges.specs.Runs.{expanded, AreRuns};
 ghost use Rattle.tb_bytes.specs.Bytes.{IsNextRun, AreRising};
 ghost use Rattle.tb_bytes.specs.Parts.{listed, first_with};
 
-use crate::bytes::Memory;
-use std::alloc::Global;
+use std::alloc::{AllocError, Global};
 use tb_perm::Prov;
 use tb_ranges::{Run, Runs};
 
 /// Each provenance that some place has, once, in the order of allocations and then of tags.
-pub fn list_provs(alloc: Global, provs: &Runs<Option<Prov>>) -> Result<Vec<Prov>, Memory>
+pub fn list_provs(alloc: Global, provs: &Runs<Option<Prov>>) -> Result<Vec<Prov>, AllocError>
     ensures members { IfOk result (λ list. (prov : Prov) → Contains list.items prov ↔ Contains provs.now (Some prov)) }
     ensures rising { IfOk result (λ list. AreRising list.items) }
 {
@@ -23,7 +22,7 @@ pub fn list_provs(alloc: Global, provs: &Runs<Option<Prov>>) -> Result<Vec<Prov>
 }
 
 /// The provenances of the runs that have one, in order.
-fn collect_provs(alloc: Global, runs: &[Run<Option<Prov>>]) -> Result<Vec<Prov>, Memory>
+fn collect_provs(alloc: Global, runs: &[Run<Option<Prov>>]) -> Result<Vec<Prov>, AllocError>
     ensures { IfOk result (λ list. list.items ≡ listed runs.now) }
 {
     let mut list = Vec::new(alloc);
@@ -35,12 +34,12 @@ fn collect_provs(alloc: Global, runs: &[Run<Option<Prov>>]) -> Result<Vec<Prov>,
     Ok(list)
 }
 
-fn put(list: &mut Vec<Prov>, prov: Prov) -> Result<(), Memory>
+fn put(list: &mut Vec<Prov>, prov: Prov) -> Result<(), AllocError>
     ensures { OnOk result (list.new.items ≡ list.old.items ++ prov ∷ []) }
 {
     match list.push(prov) {
         Ok(()) => Ok(()),
-        Err(_) => Err(Memory),
+        Err(_) => Err(AllocError),
     }
 }
 

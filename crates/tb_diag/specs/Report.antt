@@ -58,7 +58,7 @@ borrow_text source alloc report = refused_text alloc report ++ refusing_text rep
 abbrev pub placed : List ℕ → List ℕ → Span → List ℕ
 placed words source span = words ++ span_text source span ++ codes "\n"
 
--- why a run is undefined behaviour, and for a refused access what refused it; want of memory is none
+-- why a run is undefined behaviour, and for a refused access what refused it; running out of memory is none
 abbrev pub stop_text : List ℕ → Stop → Span → List ℕ
 stop_text source stop.Dangling span = placed (codes "undefined behaviour: dangling pointer at ") source span
 stop_text source stop.Uninit span = placed (codes "undefined behaviour: uninitialised bytes at ") source span

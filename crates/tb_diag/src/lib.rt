@@ -4,4 +4,4 @@
 mod places;
 mod reports;
 
-pub use reports::{Memory, report};
+pub use reports::report;

@@ -7,10 +7,6 @@ use tb_eval::{Outcome, Panic};
 use tb_heap::Stop;
 use tb_perm::{Access, AllocId, Perm, Refusal, Report, Span};
 
-/// Memory ran out.
-#[derive(Clone, Copy, Debug, PartialEq, Eq)]
-pub struct Memory;
-
 fn refusal_words(refusal: Refusal) -> &'static str
     ensures { result.now ≡ refusal_text refusal }
 {
@@ -144,17 +140,16 @@ fn undefined(alloc: Global, source: &[u8], stop: &Stop, span: Span) -> Result<Ve
 /// The report of a run over this source, in lines with their ends, and nothing for a run that
 /// finished. For a refused access a second line says which tag refused it, what that tag may still
 /// do, and where it was made.
-pub fn report(alloc: Global, source: &[u8], outcome: &Outcome) -> Result<Vec<u8>, Memory>
+pub fn report(alloc: Global, source: &[u8], outcome: &Outcome) -> Result<Vec<u8>, AllocError>
     requires { length source.now ≤ 1048576 }
     ensures { IfOk result (λ text. text.items ≡ report_of source.now outcome.now) }
 {
-    let text = match outcome {
+    match outcome {
         Outcome::Finished => Ok(Vec::new(alloc)),
         Outcome::Undefined(stop, span) => undefined(alloc, source, stop, *span),
         Outcome::Panic(panic, span) => line(alloc, panic_words(*panic), source, *span),
         Outcome::StepLimit => b"stopped: step limit\n".to_vec(alloc),
         Outcome::WriteFault => b"write fault\n".to_vec(alloc),
         Outcome::Memory => b"out of memory\n".to_vec(alloc),
-    };
-    text.map_err(|_| Memory)
+    }
 }

@@ -19,7 +19,7 @@ pub enum Outcome {
     StepLimit,
     /// A write to the output failed.
     WriteFault,
-    /// Memory ran out.
+    /// Out of memory.
     Memory,
 }
 

@@ -67,7 +67,7 @@ fn push_int(alloc: Global, bytes: &mut Vec<u8>, int: i32) -> Result<(), AllocErr
     bytes.extend_from_slice(text.as_bytes())
 }
 
-/// Adds the next integer, if there is one, and answers those after it.
+/// Adds the next integer, if there is one, and returns those after it.
 fn push_next<'a>(
     alloc: Global,
     bytes: &mut Vec<u8>,
@@ -83,7 +83,7 @@ fn push_next<'a>(
     Ok(&ints[1..])
 }
 
-/// Puts what stands at the front of a text that is not empty, and answers what is left of the text
+/// Puts what stands at the front of a text that is not empty, and returns what is left of the text
 /// and of the integers.
 fn put_front<'a, 'b>(
     alloc: Global,

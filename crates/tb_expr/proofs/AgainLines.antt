@@ -31,7 +31,7 @@ use Rattle.tb_syntax.proofs.Fronts.{optional-keyword-again}
 use Rattle.tb_syntax.proofs.Listed.{begins-has}
 use Rattle.tb_syntax.proofs.Noted.{note-again}
 use Rattle.tb_forms.specs.Beginnings.{begins_expr, begins_blocky}
-use Rattle.tb_expr.specs.Exprs.{block_in, ended_by, initializer_at, let_at, blocky_line_at, plain_line_at, line_in, lines_in, block_in_at, branch_at, else_at}
+use Rattle.tb_expr.specs.Exprs.{block_in, ended_by, equals_at, let_start_at, start_at, line_wants, line_end_at, value_at, line_in, lines_in, block_in_at, branch_at, else_at}
 use Rattle.tb_expr.specs.Grammar.{ABlocky, IsWholeAt, IsBlockyAt, IsIfAt, IsBlockAt, Braced, IsValueAt, BlockyValue, PlainValue, IsStmtAt, EmptyStmt, LetStmt, PlainStmt, BlockyStmt}
 use Rattle.tb_expr.proofs.Begun.{expr-begins, blocky-begins, if-begins}
 use Rattle.tb_forms.proofs.Begins.{begins-no-brace, begins-no-semicolon, begins-no-let}
@@ -48,20 +48,27 @@ plain span = record { span = span; glued = false }
 -- What stands behind a name in a `let`.
 
 pub initializer-none : (rest : State) → has_mark Eq rest ≡ false → Initialized rest None rest
-unfolding initializer_at
-initializer-none rest stop depth b = rw stop refl
+unfolding equals_at value_at
+initializer-none rest stop depth b = record { equals = None; after = rest; expression = None; first = rw stop refl; second = refl; is = refl }
 
 pub initializer-some : (state : State) (equals : Mark) (value : Expr) (a rest : State) → Begins (mark Eq equals) state a → Whole true 13 a value rest
     → Initialized state (Some (roll-Initializer (record { equals = equals; value = value }))) rest
-unfolding initializer_at
+unfolding equals_at value_at
 initializer-some state equals value a rest h one depth bound =
     let less : expr_depth value ≤ depth = initializer-bound (record { equals = equals; value = value }) depth bound in
-    rw (begins-has Eq equals state a h) (rw (mark-again Eq state equals a h) (rw (one depth less) refl))
+    record {
+      equals = Some equals;
+      after = a;
+      expression = Some value;
+      first = rw (begins-has Eq equals state a h) (rw (mark-again Eq state equals a h) refl);
+      second = rw (one depth less) refl;
+      is = refl;
+    }
 
 -- Statements.
 
 pub empty-statement : (state : State) (span : Span) (rest : State) → Begins (punct Semicolon span) state rest → Statement state (roll-Stmt (Stmt-F.Empty span)) rest
-unfolding line_in
+unfolding line_in start_at line_wants value_at line_end_at
 empty-statement state span rest h depth b = rw (begins-has Semicolon (plain span) state rest h) (rw (punct-again Semicolon state span rest h) refl)
 
 name-no-keyword : (w : Keyword) (state : State) (name : Ident) (rest : State) → Begins (ident name) state rest → has_keyword w state ≡ false
@@ -80,16 +87,17 @@ let-bound word mutable name ty (Some value) semicolon depth bound =
 pub let-statement : (state : State) (word : Span) (mutable : Option Span) (name : Ident) (ty : Option TypeNote) (n : ℕ) (value : Option Initializer) (semicolon : Span) (a b c d e rest : State)
     → Begins (keyword keyword_of.Let word) state a → Stands (optional_keyword keyword_of.Mut mutable) a b → Begins (ident name) b c → Stands (note_pieces ty) c d → IsNote n ty → NoteEnds ty d
     → Begins (punct Semicolon semicolon) e rest → Initialized d value e → Statement state (roll-Stmt (Stmt-F.Let (from_to word semicolon) word mutable name ty value semicolon)) rest
-unfolding line_in let_at
+unfolding line_in start_at let_start_at line_wants line_end_at
 let-statement state word mutable name ty n value semicolon a b c d e rest first second third fourth is ends last inside depth bound =
     let less = let-bound word mutable name ty value semicolon depth bound in
+    let made = inside depth less.1 in
     rw (token-no-mark (kind.Keyword keyword_of.Let) Semicolon word state a refl first) (rw (keyword-has keyword_of.Let state word a first)
     (rw (keyword-again keyword_of.Let state word a first) (rw (optional-keyword-again keyword_of.Mut a mutable b (name-no-keyword keyword_of.Mut b name c third) second)
-    (rw (name-again b name c third) (rw (note-again depth c ty d (note-within n depth ty is less.0) ends fourth) (rw (inside depth less.1) (rw (punct-again Semicolon e semicolon rest last) refl)))))))
+    (rw (name-again b name c third) (rw (note-again depth c ty d (note-within n depth ty is less.0) ends fourth) (rw made.first (rw made.second (rw made.is (rw (punct-again Semicolon e semicolon rest last) refl)))))))))
 
 pub plain-statement : (state : State) (e : Expr) (semicolon : Span) (a rest : State) → begins_blocky state ≡ false → IsWholeAt true 13 state e a → Begins (punct Semicolon semicolon) a rest
     → Whole true 13 state e a → Statement state (ended_by e semicolon) rest
-unfolding line_in plain_line_at
+unfolding line_in start_at line_wants value_at line_end_at
 plain-statement state e semicolon a rest other is last one depth bound =
     let less : expr_depth e + 1 ≤ suc depth = stmt-bound _ (suc depth) bound in
     let begins = whole-begins true 13 state e a is in
@@ -101,7 +109,7 @@ blocky-expr state e rest h = expr-begins true state e rest (ABlocky e h)
 
 pub blocky-statement : (state : State) (e : Expr) (rest : State) → IsBlockyAt state e rest → has_mark CloseBrace rest ≡ false → Whole true 0 state e rest
     → Statement state (roll-Stmt (Stmt-F.Blocky e)) rest
-unfolding line_in blocky_line_at
+unfolding line_in start_at line_wants value_at line_end_at
 blocky-statement state e rest is stop one depth bound =
     let less : expr_depth e + 1 ≤ suc depth = stmt-bound _ (suc depth) bound in
     let begins = blocky-expr state e rest is in
@@ -110,7 +118,7 @@ blocky-statement state e rest is stop one depth bound =
 -- The last expression of a block.
 
 pub blocky-last : (state : State) (e : Expr) (rest : State) → IsBlockyAt state e rest → has_mark CloseBrace rest ≡ true → Whole true 0 state e rest → LastValue state e rest
-unfolding line_in blocky_line_at
+unfolding line_in start_at line_wants value_at line_end_at
 blocky-last state e rest is stop one depth bound =
     let begins = blocky-expr state e rest is in
     rw (begins-no-semicolon state begins) (rw (begins-no-let state begins) (rw (blocky-begins state e rest is) (rw (one depth bound) (rw stop refl))))
@@ -130,7 +138,7 @@ brace-no-semicolon state e = found-brace (first_mark state) e
 
 pub plain-last : (state : State) (e : Expr) (rest : State) → begins_blocky state ≡ false → IsWholeAt true 13 state e rest → has_mark CloseBrace rest ≡ true → Whole true 13 state e rest
     → LastValue state e rest
-unfolding line_in plain_line_at
+unfolding line_in start_at line_wants value_at line_end_at
 plain-last state e rest other is stop one depth bound =
     let begins = whole-begins true 13 state e rest is in
     rw (begins-no-semicolon state begins) (rw (begins-no-let state begins) (rw other (rw (one depth bound) (rw (brace-no-semicolon rest stop) (rw stop refl)))))

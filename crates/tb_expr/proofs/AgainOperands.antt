@@ -1,5 +1,5 @@
 -- Operands that stand there are read, one form after another.
-use Rattle.std.proofs.Common.{◌≡◌, ℕ, suc, ◌+◌, ◌≤◌, Bool, true, false, if◌then◌else◌, List, [], ◌∷◌, map, length, Option, Some, None, refl, arith}
+use Rattle.std.proofs.Common.{◌≡◌, ℕ, suc, ◌+◌, ◌≤◌, Bool, true, false, if◌then◌else◌, List, [], ◌∷◌, map, length, Option, Some, None, refl, sym, subst, arith}
 use Rattle.std.specs.Prelude.{max}
 use Rattle.tb_perm.specs.declared.span.Span.{Span}
 use Rattle.tb_lex.specs.declared.keyword.Keyword.TheVariants as keyword_of
@@ -25,7 +25,6 @@ use Rattle.tb_ast.specs.Depth.{deepest, expr_depth, field_depth, block_depth, tu
 use Rattle.tb_syntax.specs.Reading.{◌>>=◌}
 use Rattle.tb_syntax.specs.State.{State, Begins, Stands}
 use Rattle.tb_syntax.specs.Marks.{has_mark}
-use Rattle.tb_syntax.specs.Lists.{listed_at}
 use Rattle.tb_syntax.proofs.Marks.{punct-again, other-mark}
 use Rattle.tb_syntax.proofs.Listed.{begins-has}
 use Rattle.tb_forms.specs.declared.front.Front.{Front}
@@ -34,7 +33,9 @@ use Rattle.tb_forms.specs.Beginnings.{begins_expr}
 use Rattle.tb_forms.specs.Trees.{unary_to, borrow_to, return_to, unsafe_to, loop_to, while_to, if_to, panic_of, struct_literal, call_of, unit_in, paren_in, tuple_in, array_in, repeat_in, print_of, assert_of}
 use Rattle.tb_forms.specs.Fronts.{IsFrontAt}
 use Rattle.tb_forms.specs.Closings.{group_of, group_at, repeat_at, array_at, literal_at, call_at, print_at, assert_at, IsCount}
-use Rattle.tb_expr.specs.Exprs.{whole_at, while_at, if_at, return_at, values_at, takes_values, behind_front, operand_at, expr_at}
+use Rattle.tb_forms.specs.declared.wanted.Wanted.TheVariants as wanted
+use Rattle.tb_forms.specs.Wants.{takes_values, wants, finished_at}
+use Rattle.tb_expr.specs.Exprs.{tested_at, got_at, operand_at, expr_at}
 use Rattle.tb_expr.specs.Grammar.{IsWholeAt, IsBlockAt, Braced, AreExprsAt, NoExprs, LastExpr, MoreExprs}
 use Rattle.tb_forms.proofs.FrontAgain.{front-again}
 use Rattle.tb_forms.proofs.Begins.{begins-no-paren, begins-no-bracket}
@@ -46,7 +47,7 @@ use Rattle.tb_expr.proofs.AgainLists.{whole-begins, exprs-last, exprs-listed, fi
 
 -- an operand is read by what stands first in it
 operand-read : (depth : ℕ) (bare : Bool) (state : State) (f : Front) (a : State) (y : Option (Expr × State)) → IsFrontAt depth bare state f a
-    → behind_front depth (expr_at depth) bare f a ≡ y → operand_at depth (expr_at depth) bare state ≡ y
+    → (got_at depth (expr_at depth) (wants f bare a) a >>= λ x. finished_at f x.0 x.1) ≡ y → operand_at depth (expr_at depth) bare state ≡ y
 unfolding operand_at
 operand-read depth bare state f a y h e = rw (front-again depth bare state f a h) e
 
@@ -57,51 +58,51 @@ plain span = record { span = span; glued = false }
 -- Without anything in them.
 
 pub literal-operand : (bare : Bool) (state : State) (value : Literal) (rest : State) → Begins (literal value) state rest → Operand bare state (roll-Expr (Expr-F.Literal value)) rest
-unfolding behind_front
+unfolding got_at wants finished_at
 literal-operand bare state value rest h depth b = operand-read depth bare state (front.Literal value) rest _ h refl
 
 pub path-operand : (bare : Bool) (state : State) (path : ExprPath) (rest : State) (n : ℕ) → IsFrontAt n bare state (front.Path path) rest → Operand bare state (roll-Expr (Expr-F.Path path)) rest
-unfolding behind_front
+unfolding got_at wants finished_at
 path-operand bare state path rest n h depth bound =
     let b : turbofish_depth path.turbofish + 1 ≤ suc depth = expr-bound (Expr-F.Path path) (suc depth) bound in
     operand-read depth bare state (front.Path path) rest _ (front-within n depth bare state (front.Path path) rest h (omega arith)) refl
 
 pub break-operand : (bare : Bool) (state : State) (span : Span) (rest : State) → Begins (keyword keyword_of.Break span) state rest → Operand bare state (roll-Expr (Expr-F.Break span)) rest
-unfolding behind_front
+unfolding got_at wants finished_at
 break-operand bare state span rest h depth b = operand-read depth bare state (front.Break span) rest _ h refl
 
 pub continue-operand : (bare : Bool) (state : State) (span : Span) (rest : State) → Begins (keyword keyword_of.Continue span) state rest → Operand bare state (roll-Expr (Expr-F.Continue span)) rest
-unfolding behind_front
+unfolding got_at wants finished_at
 continue-operand bare state span rest h depth b = operand-read depth bare state (front.Continue span) rest _ h refl
 
 pub panic-operand : (bare : Bool) (state : State) (name bang opening : Span) (text : Option TextLiteral) (closing : Span) (rest : State)
     → IsFrontAt 0 bare state (front.Panic name bang opening text closing) rest → Operand bare state (panic_of name bang opening text closing) rest
-unfolding behind_front
+unfolding got_at wants finished_at
 panic-operand bare state name bang opening text closing rest h depth b = operand-read depth bare state (front.Panic name bang opening text closing) rest _ h refl
 
 -- With one expression.
 
 pub unary-operand : (bare : Bool) (state : State) (operator : UnaryOp) (at : Span) (operand : Expr) (a rest : State) → Begins (punct (unary_mark operator) at) state a
     → Whole bare 2 a operand rest → Operand bare state (unary_to operator at operand) rest
-unfolding behind_front
+unfolding got_at wants finished_at
 unary-operand bare state operator at operand a rest h one depth bound =
     let b : expr_depth operand + 1 ≤ suc depth = expr-bound _ (suc depth) bound in
     operand-read depth bare state (front.Unary operator at) a _ h (rw (one depth (omega arith)) refl)
 
 pub borrow-operand : (bare : Bool) (state : State) (and : Mark) (kind : Borrow) (operand : Expr) (a rest : State) → IsFrontAt 0 bare state (front.Borrow and kind) a
     → Whole bare 2 a operand rest → Operand bare state (borrow_to and kind operand) rest
-unfolding behind_front
+unfolding got_at wants finished_at
 borrow-operand bare state and kind operand a rest h one depth bound =
     let b : expr_depth operand + 1 ≤ suc depth = expr-bound _ (suc depth) bound in
     operand-read depth bare state (front.Borrow and kind) a _ h (rw (one depth (omega arith)) refl)
 
 pub return-operand : (bare : Bool) (state : State) (at : Span) (rest : State) → Begins (keyword keyword_of.Return at) state rest → begins_expr rest ≡ false → Operand bare state (return_to at None) rest
-unfolding behind_front return_at
+unfolding got_at wants finished_at
 return-operand bare state at rest h stop depth b = operand-read depth bare state (front.Return at) rest _ h (rw stop refl)
 
 pub return-of-operand : (bare : Bool) (state : State) (at : Span) (value : Expr) (a rest : State) → Begins (keyword keyword_of.Return at) state a → IsWholeAt bare 13 a value rest
     → Whole bare 13 a value rest → Operand bare state (return_to at (Some value)) rest
-unfolding behind_front return_at
+unfolding got_at wants finished_at
 return-of-operand bare state at value a rest h is one depth bound =
     let b : expr_depth value + 1 ≤ suc depth = expr-bound _ (suc depth) bound in
     operand-read depth bare state (front.Return at) a _ h (rw (whole-begins bare 13 a value rest is) (rw (one depth (omega arith)) refl))
@@ -109,7 +110,7 @@ return-of-operand bare state at value a rest h is one depth bound =
 pub assert-operand : (bare : Bool) (state : State) (name bang opening : Span) (condition : Expr) (comma : Option Span) (closing : Span) (a b c rest : State)
     → IsFrontAt 0 bare state (front.Assert name bang opening) a → Stands (optional_mark Comma comma) b c → Begins (punct CloseParen closing) c rest
     → Whole true 13 a condition b → Operand bare state (assert_of name bang opening condition comma closing) rest
-unfolding behind_front assert_at
+unfolding got_at wants finished_at assert_at
 assert-operand bare state name bang opening condition comma closing a b c rest h second last one depth bound =
     let less : expr_depth condition + 1 ≤ suc depth = expr-bound _ (suc depth) bound in
     operand-read depth bare state (front.Assert name bang opening) a _ h
@@ -119,14 +120,14 @@ assert-operand bare state name bang opening condition comma closing a b c rest h
 
 pub unit-operand : (bare : Bool) (state : State) (opening closing : Span) (a rest : State) → Begins (punct OpenParen opening) state a → Exprs CloseParen a [] [] a
     → Begins (punct CloseParen closing) a rest → Operand bare state (unit_in opening closing) rest
-unfolding behind_front group_at
+unfolding got_at wants finished_at group_at
 unit-operand bare state opening closing a rest h inside last depth bound =
     operand-read depth bare state (front.Paren opening) a _ h
     (rw (exprs-listed CloseParen a [] [] a inside begins-no-paren depth (omega arith)) (rw (punct-again CloseParen a closing rest last) refl))
 
 pub paren-operand : (bare : Bool) (state : State) (opening : Span) (inner : Expr) (closing : Span) (a b rest : State) → Begins (punct OpenParen opening) state a → IsWholeAt true 13 a inner b
     → Begins (punct CloseParen closing) b rest → Whole true 13 a inner b → Operand bare state (paren_in opening inner closing) rest
-unfolding behind_front group_at
+unfolding got_at wants finished_at group_at
 paren-operand bare state opening inner closing a b rest h is last one depth bound =
     let less : expr_depth inner + 1 ≤ suc depth = expr-bound _ (suc depth) bound in
     let stop = other-mark CloseParen Comma (plain closing) b rest refl last in
@@ -142,7 +143,7 @@ two-group opening (one ∷ other ∷ parts) commas closing two = refl
 
 pub tuple-operand : (bare : Bool) (state : State) (opening : Span) (parts : List Expr) (commas : List Span) (closing : Span) (a b rest : State) → Begins (punct OpenParen opening) state a
     → 2 ≤ length parts → Begins (punct CloseParen closing) b rest → Exprs CloseParen a parts commas b → Operand bare state (tuple_in opening parts commas closing) rest
-unfolding behind_front group_at
+unfolding got_at wants finished_at group_at
 tuple-operand bare state opening parts commas closing a b rest h two last inside depth bound =
     let less : deepest (map expr_depth parts) + 1 ≤ suc depth = expr-bound _ (suc depth) bound in
     operand-read depth bare state (front.Paren opening) a _ h
@@ -150,7 +151,7 @@ tuple-operand bare state opening parts commas closing a b rest h two last inside
 
 pub array-operand : (bare : Bool) (state : State) (opening : Span) (elements : List Expr) (commas : List Span) (closing : Span) (a b rest : State) → Begins (punct OpenBracket opening) state a
     → Begins (punct CloseBracket closing) b rest → Exprs CloseBracket a elements commas b → Operand bare state (array_in opening elements commas closing) rest
-unfolding behind_front array_at
+unfolding got_at wants finished_at array_at
 array-operand bare state opening elements commas closing a b rest h last inside depth bound =
     let less : deepest (map expr_depth elements) + 1 ≤ suc depth = expr-bound _ (suc depth) bound in
     operand-read depth bare state (front.Bracket opening) a _ h
@@ -160,7 +161,7 @@ array-operand bare state opening elements commas closing a b rest h last inside 
 pub repeat-operand : (bare : Bool) (state : State) (opening : Span) (element : Expr) (semicolon : Span) (count : IntLiteral) (closing : Span) (a b c d rest : State)
     → Begins (punct OpenBracket opening) state a → IsWholeAt true 13 a element b → Begins (punct Semicolon semicolon) b c → Begins (number count) c d → IsCount count
     → Begins (punct CloseBracket closing) d rest → Whole true 13 a element b → Operand bare state (repeat_in opening element semicolon count closing) rest
-unfolding behind_front array_at repeat_at
+unfolding got_at wants finished_at array_at repeat_at
 repeat-operand bare state opening element semicolon count closing a b c d rest h is second third good last one depth bound =
     let less : expr_depth element + 1 ≤ suc depth = expr-bound _ (suc depth) bound in
     let stop = other-mark Semicolon Comma (plain semicolon) b c refl second in
@@ -173,7 +174,7 @@ repeat-operand bare state opening element semicolon count closing a b c d rest h
 pub struct-operand : (bare : Bool) (state : State) (path : Path) (opening : Span) (fields : List FieldValue) (commas : List Span) (closing : Span) (a b rest : State)
     → IsFrontAt 0 bare state (front.StructLiteral path opening) a → Begins (punct CloseBrace closing) b rest → Fields a fields commas b
     → Operand bare state (struct_literal path opening fields commas closing) rest
-unfolding behind_front literal_at
+unfolding got_at wants finished_at literal_at
 struct-operand bare state path opening fields commas closing a b rest h last inside depth bound =
     let less : deepest (map field_depth fields) + 1 ≤ suc depth = expr-bound _ (suc depth) bound in
     operand-read depth bare state (front.StructLiteral path opening) a _ h
@@ -182,7 +183,7 @@ struct-operand bare state path opening fields commas closing a b rest h last ins
 pub call-operand : (bare : Bool) (state : State) (callee : ExprPath) (n : ℕ) (opening : Span) (arguments : List Expr) (commas : List Span) (closing : Span) (a b rest : State)
     → IsFrontAt n bare state (front.Call callee opening) a → Begins (punct CloseParen closing) b rest → Exprs CloseParen a arguments commas b
     → Operand bare state (call_of callee opening arguments commas closing) rest
-unfolding behind_front call_at
+unfolding got_at wants finished_at call_at
 call-operand bare state callee n opening arguments commas closing a b rest h last inside depth bound =
     let less : max (turbofish_depth callee.turbofish) (deepest (map expr_depth arguments)) + 1 ≤ suc depth = expr-bound _ (suc depth) bound in
     operand-read depth bare state (front.Call callee opening) a _ (front-within n depth bare state (front.Call callee opening) a h (omega arith))
@@ -193,26 +194,23 @@ no-values close state es commas rest (NoExprs e) none = (refl, refl)
 no-values close state es commas rest (LastExpr e h stop) none = absurd cc
 no-values close state es commas rest (MoreExprs e comma others more a b h between hs) none = absurd cc
 
-values-read : (takes : Option PrintText) (state : State) (values : List Expr) (commas : List Span) (rest : State) → AreExprsAt CloseParen state values commas rest
-    → (takes_values takes ≡ false → values ≡ []) → Exprs CloseParen state values commas rest
-    → (depth : ℕ) → deepest (map expr_depth values) ≤ depth → values_at depth (expr_at depth) takes state ≡ Some ((values, commas), rest)
-unfolding values_at
-values-read takes state values commas rest is none inside depth b = by_text (takes_values takes) refl where
-  by_text : (t : Bool) → takes_values takes ≡ t → (if t then listed_at (whole_at depth (expr_at depth)) CloseParen state else Some (([], []), state)) ≡ Some ((values, commas), rest)
-  by_text true e = exprs-listed CloseParen state values commas rest inside begins-no-paren depth b
-  by_text false e =
-      let n = none e in
-      let more = no-values CloseParen state values commas rest is n in
-      cc
-
 pub print-operand : (bare : Bool) (state : State) (name : Span) (newline : Bool) (bang opening : Span) (text : Option PrintText) (values : List Expr) (commas : List Span) (closing : Span) (a b rest : State)
     → IsFrontAt 0 bare state (front.Print name newline bang opening text) a → AreExprsAt CloseParen a values commas b → (takes_values text ≡ false → values ≡ []) → Begins (punct CloseParen closing) b rest
     → Exprs CloseParen a values commas b → Operand bare state (print_of name newline bang opening text values commas closing) rest
-unfolding behind_front print_at
+unfolding got_at wants finished_at print_at
 print-operand bare state name newline bang opening text values commas closing a b rest h is none last inside depth bound =
-    let less : deepest (map expr_depth values) + 1 ≤ suc depth = expr-bound _ (suc depth) bound in
-    operand-read depth bare state (front.Print name newline bang opening text) a _ h
-    (rw (values-read text a values commas b is none inside depth (omega arith)) (rw (punct-again CloseParen b closing rest last) refl))
+    operand-read depth bare state (front.Print name newline bang opening text) a _ h (by_text (takes_values text) refl) where
+      by_text : (t : Bool) → takes_values text ≡ t
+          → (got_at depth (expr_at depth) (if t then wanted.Values CloseParen else wanted.Nothing) a >>= λ x. finished_at (front.Print name newline bang opening text) x.0 x.1)
+          ≡ Some (print_of name newline bang opening text values commas closing, rest)
+      by_text true e =
+          let less : deepest (map expr_depth values) + 1 ≤ suc depth = expr-bound _ (suc depth) bound in
+          rw (exprs-listed CloseParen a values commas b inside begins-no-paren depth (omega arith)) (rw (punct-again CloseParen b closing rest last) refl)
+      by_text false e =
+          let n = none e in
+          let more = no-values CloseParen a values commas b is n in
+          let end : Begins (punct CloseParen closing) a rest = subst (λ s. Begins (punct CloseParen closing) s rest) (sym more.1) last in
+          rw (punct-again CloseParen a closing rest end) (rw (n, more.0) refl)
 
 -- With blocks.
 
@@ -220,26 +218,26 @@ pub block-begins : (state : State) (body : Block) (rest : State) → IsBlockAt s
 block-begins state body rest (Braced opening statements last closing a b first lines second) = begins-has OpenBrace (plain opening) state a first
 
 pub block-operand : (state : State) (body : Block) (rest : State) → IsBlockAt state body rest → Braces state body rest → Blocky state (roll-Expr (Expr-F.Block body)) rest
-unfolding behind_front
+unfolding got_at wants finished_at
 block-operand state body rest is inside bare depth bound =
     let less : block_depth body ≤ suc depth = expr-bound _ (suc depth) bound in
     operand-read depth bare state front.Block state _ (block-begins state body rest is, refl) (rw (inside depth less) refl)
 
 pub unsafe-operand : (state : State) (at : Span) (body : Block) (a rest : State) → Begins (keyword keyword_of.Unsafe at) state a → Braces a body rest → Blocky state (unsafe_to at body) rest
-unfolding behind_front
+unfolding got_at wants finished_at
 unsafe-operand state at body a rest h inside bare depth bound =
     let less : block_depth body + 1 ≤ suc depth = expr-bound _ (suc depth) bound in
     operand-read depth bare state (front.Unsafe at) a _ h (rw (inside depth (omega arith)) refl)
 
 pub loop-operand : (state : State) (at : Span) (body : Block) (a rest : State) → Begins (keyword keyword_of.Loop at) state a → Braces a body rest → Blocky state (loop_to at body) rest
-unfolding behind_front
+unfolding got_at wants finished_at
 loop-operand state at body a rest h inside bare depth bound =
     let less : block_depth body + 1 ≤ suc depth = expr-bound _ (suc depth) bound in
     operand-read depth bare state (front.Loop at) a _ h (rw (inside depth (omega arith)) refl)
 
 pub while-operand : (state : State) (at : Span) (condition : Expr) (body : Block) (a b rest : State) → Begins (keyword keyword_of.While at) state a → Whole false 13 a condition b → Braces b body rest
     → Blocky state (while_to at condition body) rest
-unfolding behind_front while_at
+unfolding got_at wants finished_at tested_at
 while-operand state at condition body a b rest h one inside bare depth bound =
     let less : max (expr_depth condition) (block_depth body) + 1 ≤ suc depth = expr-bound _ (suc depth) bound in
     operand-read depth bare state (front.While at) a _ h (rw (one depth (omega arith)) (rw (inside depth (omega arith)) refl))
@@ -255,7 +253,7 @@ if-bound at condition body (Some otherwise) depth bound =
 
 pub if-operand : (state : State) (at : Span) (condition : Expr) (body : Block) (otherwise : Option Else) (a b c rest : State) → Begins (keyword keyword_of.If at) state a → Whole false 13 a condition b
     → Braces b body c → Otherwise c otherwise rest → Blocky state (if_to at condition body otherwise) rest
-unfolding behind_front if_at
+unfolding got_at wants finished_at tested_at
 if-operand state at condition body otherwise a b c rest h one inside more bare depth bound =
     let less = if-bound at condition body otherwise depth bound in
     operand-read depth bare state (front.If at) a _ h (rw (one depth less.0) (rw (inside depth (omega arith)) (rw (more depth less.2) refl)))

@@ -3,6 +3,7 @@ use Rattle.std.proofs.Common.{◌≡◌, ℕ, suc, ◌+◌, ◌≤◌, Bool, tru
 use Rattle.tb_perm.specs.declared.span.Span.{Span}
 use Rattle.tb_lex.specs.declared.punctuation.Punctuation.{Punctuation}
 use Rattle.tb_lex.specs.declared.punctuation.Punctuation.TheVariants.{Comma, CloseBrace}
+use Rattle.tb_ast.specs.declared.leaf.Mark.{Mark}
 use Rattle.tb_ast.specs.declared.expression.Expr.{Expr}
 use Rattle.tb_ast.specs.declared.expression.Else.{Else}
 use Rattle.tb_ast.specs.declared.expression.Block.{Block}
@@ -16,7 +17,7 @@ use Rattle.tb_syntax.specs.Lists.{list_at}
 use Rattle.tb_forms.specs.Beginnings.{begins_expr}
 use Rattle.tb_forms.specs.Levels.{level_of}
 use Rattle.tb_expr.specs.declared.lines.Line.TheVariants as line
-use Rattle.tb_expr.specs.Exprs.{whole_at, field_at, initializer_at, line_in, lines_in, block_in_at, else_at, operand_at, longest_at, expr_at}
+use Rattle.tb_expr.specs.Exprs.{whole_at, field_at, equals_at, equals_wants, initializer_of, value_at, line_in, lines_in, block_in_at, else_at, operand_at, longest_at, expr_at}
 use Rattle.tb_expr.proofs.AgainDepths.{last_depth, otherwise_depth, value_depth}
 
 -- an expression, up to a level
@@ -68,5 +69,14 @@ Statement state s rest = (depth : ℕ) → stmt_depth s ≤ suc depth → line_i
 abbrev pub LastValue : State → Expr → State → Type 0
 LastValue state e rest = (depth : ℕ) → expr_depth e ≤ depth → line_in depth (expr_at depth) state ≡ Some (line.Last e, rest)
 
+-- what stands behind `=`, if it stands there, makes this initializer
+pub record Initializing (depth : ℕ) (state : State) (value : Option Initializer) (rest : State) : Type 0 where
+  pub equals : Option Mark
+  pub after : State
+  pub expression : Option Expr
+  pub first : equals_at state ≡ Some (equals, after)
+  pub second : value_at depth (expr_at depth) (equals_wants equals) after ≡ Some (expression, rest)
+  pub is : initializer_of equals expression ≡ Some value
+
 abbrev pub Initialized : State → Option Initializer → State → Type 0
-Initialized state value rest = (depth : ℕ) → value_depth value ≤ depth → initializer_at depth (expr_at depth) state ≡ Some (value, rest)
+Initialized state value rest = (depth : ℕ) → value_depth value ≤ depth → Initializing depth state value rest

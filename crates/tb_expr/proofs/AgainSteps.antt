@@ -1,5 +1,5 @@
 -- How an expression that stands there is read on, step by step, as far as it goes.
-use Rattle.std.proofs.Common.{◌≡◌, ℕ, zero, suc, ◌+◌, ◌≤◌, Bool, true, false, List, ◌∷◌, map, Option, Some, refl, ap, ◌∙◌, arith}
+use Rattle.std.proofs.Common.{◌≡◌, ℕ, zero, suc, ◌+◌, ◌≤◌, Bool, true, false, List, ◌∷◌, map, Option, Some, refl, subst, ap, ◌∙◌, arith}
 use Rattle.std.specs.Prelude.{max}
 use Rattle.std.proofs.lemmas.Bool.{le-leb}
 use Rattle.tb_perm.specs.declared.span.Span.{Span}
@@ -21,13 +21,14 @@ use Rattle.tb_syntax.specs.State.{State, Begins}
 use Rattle.tb_syntax.proofs.Marks.{punct-again}
 use Rattle.tb_forms.specs.declared.step.Step.{Step}
 use Rattle.tb_forms.specs.declared.step.Step.TheVariants as step
-use Rattle.tb_forms.specs.Levels.{binary_level, left_level, right_level, level_of, is_within, continues}
+use Rattle.tb_forms.specs.Levels.{binary_level, left_level, right_level, level_of, loosest_left, takes_on, goes_on}
 use Rattle.tb_forms.specs.Trees.{field_of, tuple_field_of, method_call, index_of, cast_to, binary_with, assign_to, compute_to}
 use Rattle.tb_forms.specs.Steps.{step_level, operand_level, IsStepAt}
 use Rattle.tb_forms.specs.Closings.{method_call_at, index_at}
-use Rattle.tb_expr.specs.Exprs.{operand_at, behind_step, further_at, longest_at, expr_at}
+use Rattle.tb_forms.specs.Wants.{step_wants, step_finished_at}
+use Rattle.tb_expr.specs.Exprs.{got_at, operand_at, further_at, longest_at, expr_at}
 use Rattle.tb_forms.proofs.StepAgain.{step-again}
-use Rattle.tb_forms.proofs.Begins.{step-levels, continues-nothing, begins-no-paren}
+use Rattle.tb_forms.proofs.Begins.{step-levels, step-operands, goes-nowhere, begins-no-paren}
 use Rattle.tb_expr.proofs.Within.{step-within}
 use Rattle.tb_expr.proofs.AgainDepths.{expr-roll, expr-some, level-roll}
 use Rattle.tb_expr.proofs.AgainReads.{Whole, Reaches, Operand, Blocky, Exprs}
@@ -35,21 +36,23 @@ use Rattle.tb_expr.proofs.AgainLists.{exprs-listed}
 
 -- One round.
 
-further-read : (depth : ℕ) (bare : Bool) (left : Expr) (a : State) (s : Step) (b : State) (y : Option (Expr × State)) → IsStepAt depth a s b → level_of left ≤ operand_level s
-    → behind_step depth (expr_at depth) bare left s b ≡ y → further_at depth (expr_at depth) bare left a ≡ y
+further-read : (depth : ℕ) (bare : Bool) (left : Expr) (a : State) (s : Step) (b : State) (y : Option (Expr × State)) → IsStepAt depth a s b
+    → (got_at depth (expr_at depth) (step_wants bare s) b >>= λ x. step_finished_at left s x.0 x.1) ≡ y → further_at depth (expr_at depth) bare left a ≡ y
 unfolding further_at
-further-read depth bare left a s b y h tight e = rw (step-again depth a s b h) (rw (le-leb (level_of left) (operand_level s) tight) e)
+further-read depth bare left a s b y h e = rw (step-again depth a s b h) e
 
-goes-on : (depth : ℕ) (most : ℕ) (a : State) (s : Step) (b : State) → IsStepAt depth a s b → step_level s ≤ most → continues most a ≡ true
-unfolding continues
-goes-on depth most a s b h fits = ap (is_within most) (step-levels depth a s b h) ∙ le-leb (step_level s) most fits
+goes-on : (depth : ℕ) (level most : ℕ) (a : State) (s : Step) (b : State) → IsStepAt depth a s b → step_level s ≤ most → level ≤ operand_level s → goes_on level most a ≡ true
+unfolding goes_on
+goes-on depth level most a s b h fits tight =
+    let taken : level ≤ loosest_left (step_level s) = subst (λ n. level ≤ n) (step-operands s) tight in
+    ap (takes_on level most) (step-levels depth a s b h) ∙ rw (le-leb (step_level s) most fits, le-leb level (loosest_left (step_level s)) taken) refl
 
-longest-more : (depth : ℕ) (bare : Bool) (most fuel : ℕ) (left : Expr) (a : State) (e : Expr) (rest : State) → continues most a ≡ true → further_at depth (expr_at depth) bare left a ≡ Some (e, rest)
+longest-more : (depth : ℕ) (bare : Bool) (most fuel : ℕ) (left : Expr) (a : State) (e : Expr) (rest : State) → goes_on (level_of left) most a ≡ true → further_at depth (expr_at depth) bare left a ≡ Some (e, rest)
     → longest_at depth (expr_at depth) bare most (suc fuel) left a ≡ longest_at depth (expr_at depth) bare most fuel e rest
 unfolding longest_at
 longest-more depth bare most fuel left a e rest on read = rw on (rw read refl)
 
-longest-stops : (depth : ℕ) (bare : Bool) (most fuel : ℕ) (left : Expr) (a : State) → continues most a ≡ false → longest_at depth (expr_at depth) bare most (suc fuel) left a ≡ Some (left, a)
+longest-stops : (depth : ℕ) (bare : Bool) (most fuel : ℕ) (left : Expr) (a : State) → goes_on (level_of left) most a ≡ false → longest_at depth (expr_at depth) bare most (suc fuel) left a ≡ Some (left, a)
 unfolding longest_at
 longest-stops depth bare most fuel left a stop = rw stop refl
 
@@ -65,7 +68,7 @@ operand-reaches bare state e rest operand depth bound most fits =
     let some = expr-some e in
     (suc depth, omega arith, operand-first depth bare most state e rest (operand depth bound))
 
-pub whole-reached : (bare : Bool) (most : ℕ) (state : State) (e : Expr) (rest : State) → level_of e ≤ most → continues most rest ≡ false → Reaches bare state e rest → Whole bare most state e rest
+pub whole-reached : (bare : Bool) (most : ℕ) (state : State) (e : Expr) (rest : State) → level_of e ≤ most → goes_on (level_of e) most rest ≡ false → Reaches bare state e rest → Whole bare most state e rest
 whole-reached bare most state e rest fits stop reaches zero bound = let some = expr-some e in absurd (omega arith)
 whole-reached bare most state e rest fits stop reaches (suc depth) bound = let there = reaches depth bound most fits in from there.0 there.1 there.2 where
   from : (fuel : ℕ) → suc (suc depth) ≤ fuel + expr_depth e → expr_at (suc depth) bare most state ≡ longest_at depth (expr_at depth) bare most fuel e rest → expr_at (suc depth) bare most state ≡ Some (e, rest)
@@ -76,12 +79,12 @@ whole-reached bare most state e rest fits stop reaches (suc depth) bound = let t
 pub blocky-whole : (state : State) (e : Expr) (rest : State) → Blocky state e rest → Whole true 0 state e rest
 blocky-whole state e rest blocky zero bound = let some = expr-some e in absurd (omega arith)
 blocky-whole state e rest blocky (suc depth) bound =
-    operand-first depth true 0 state e rest (blocky true depth bound) ∙ longest-stops depth true 0 depth e rest (continues-nothing rest)
+    operand-first depth true 0 state e rest (blocky true depth bound) ∙ longest-stops depth true 0 depth e rest (goes-nowhere (level_of e) rest)
 
 -- one step further
 step-reaches : (bare : Bool) (state : State) (left : Expr) (a : State) (s : Step) (b : State) (e : Expr) (rest : State)
     → level_of left ≤ operand_level s → operand_level s ≤ step_level s → level_of e ≡ step_level s → suc (expr_depth left) ≤ expr_depth e → Reaches bare state left a
-    → ((depth : ℕ) → expr_depth e ≤ suc depth → IsStepAt depth a s b × (behind_step depth (expr_at depth) bare left s b ≡ Some (e, rest)))
+    → ((depth : ℕ) → expr_depth e ≤ suc depth → IsStepAt depth a s b × ((got_at depth (expr_at depth) (step_wants bare s) b >>= λ x. step_finished_at left s x.0 x.1) ≡ Some (e, rest)))
     → Reaches bare state e rest
 step-reaches bare state left a s b e rest tight looser level deeper reaches next depth bound most fits =
     let there = reaches depth (omega arith) most (omega arith) in
@@ -91,22 +94,22 @@ step-reaches bare state left a s b e rest tight looser level deeper reaches next
       from zero few read = absurd (omega arith)
       from (suc fuel) few read =
           let go = next depth bound in
-          let further = further-read depth bare left a s b _ go.0 tight go.1 in
-          let on = goes-on depth most a s b go.0 (omega arith) in
+          let further = further-read depth bare left a s b _ go.0 go.1 in
+          let on = goes-on depth (level_of left) most a s b go.0 (omega arith) tight in
           (fuel, omega arith, read ∙ longest-more depth bare most fuel left a e rest on further)
 
 -- The steps.
 
 pub field-reaches : (bare : Bool) (state : State) (base : Expr) (dot : Span) (name : Ident) (a rest : State) → level_of base ≤ 1 → IsStepAt 0 a (step.Field dot name) rest
     → Reaches bare state base a → Reaches bare state (field_of base dot name) rest
-unfolding behind_step
+unfolding got_at step_wants step_finished_at
 field-reaches bare state base dot name a rest tight h reaches =
     let same : expr_depth (field_of base dot name) ≡ expr_depth base + 1 = expr-roll _ in
     step-reaches bare state base a (step.Field dot name) rest (field_of base dot name) rest tight (omega arith) (level-roll _) (omega arith) reaches (λ depth bound. (h, refl))
 
 pub tuple-field-reaches : (bare : Bool) (state : State) (base : Expr) (dot : Span) (index : IntLiteral) (a rest : State) → level_of base ≤ 1 → IsStepAt 0 a (step.TupleField dot index) rest
     → Reaches bare state base a → Reaches bare state (tuple_field_of base dot index) rest
-unfolding behind_step
+unfolding got_at step_wants step_finished_at
 tuple-field-reaches bare state base dot index a rest tight h reaches =
     let same : expr_depth (tuple_field_of base dot index) ≡ expr_depth base + 1 = expr-roll _ in
     step-reaches bare state base a (step.TupleField dot index) rest (tuple_field_of base dot index) rest tight (omega arith) (level-roll _) (omega arith) reaches (λ depth bound. (h, refl))
@@ -114,7 +117,7 @@ tuple-field-reaches bare state base dot index a rest tight h reaches =
 pub method-reaches : (bare : Bool) (state : State) (receiver : Expr) (n : ℕ) (dot : Span) (name : Ident) (turbofish : Option Turbofish) (opening : Span) (arguments : List Expr) (commas : List Span) (closing : Span)
     (a b c rest : State) → level_of receiver ≤ 1 → IsStepAt n a (step.MethodCall dot name turbofish opening) b → Begins (punct CloseParen closing) c rest
     → Reaches bare state receiver a → Exprs CloseParen b arguments commas c → Reaches bare state (method_call receiver dot name turbofish opening arguments commas closing) rest
-unfolding behind_step method_call_at
+unfolding got_at step_wants step_finished_at method_call_at
 method-reaches bare state receiver n dot name turbofish opening arguments commas closing a b c rest tight h last reaches inside =
     let e = method_call receiver dot name turbofish opening arguments commas closing in
     let same : expr_depth e ≡ max (max (expr_depth receiver) (turbofish_depth turbofish)) (deepest (map expr_depth arguments)) + 1 = expr-roll _ in
@@ -126,7 +129,7 @@ method-reaches bare state receiver n dot name turbofish opening arguments commas
 
 pub index-reaches : (bare : Bool) (state : State) (base : Expr) (opening : Span) (index : Expr) (closing : Span) (a b c rest : State) → level_of base ≤ 1 → Begins (punct OpenBracket opening) a b
     → Begins (punct CloseBracket closing) c rest → Reaches bare state base a → Whole true 13 b index c → Reaches bare state (index_of base opening index closing) rest
-unfolding behind_step index_at
+unfolding got_at step_wants step_finished_at index_at
 index-reaches bare state base opening index closing a b c rest tight h last reaches inside =
     let e = index_of base opening index closing in
     let same : expr_depth e ≡ max (expr_depth base) (expr_depth index) + 1 = expr-roll _ in
@@ -135,7 +138,7 @@ index-reaches bare state base opening index closing a b c rest tight h last reac
 
 pub cast-reaches : (bare : Bool) (state : State) (operand : Expr) (n : ℕ) (at : Span) (ty : TypeExpr) (a rest : State) → level_of operand ≤ 3 → IsStepAt n a (step.Cast at ty) rest
     → Reaches bare state operand a → Reaches bare state (cast_to operand at ty) rest
-unfolding behind_step
+unfolding got_at step_wants step_finished_at
 cast-reaches bare state operand n at ty a rest tight h reaches =
     let e = cast_to operand at ty in
     let same : expr_depth e ≡ max (expr_depth operand) (type_depth ty) + 1 = expr-roll _ in
@@ -153,7 +156,7 @@ left-tight operator = omega arith
 
 pub binary-reaches : (bare : Bool) (state : State) (left : Expr) (operator : BinaryOp) (at : Mark) (right : Expr) (a b rest : State) → level_of left ≤ left_level operator
     → a ≡ mark (binary_mark operator) at ∷ b → Reaches bare state left a → Whole bare (right_level operator) b right rest → Reaches bare state (binary_with left operator at right) rest
-unfolding behind_step
+unfolding got_at step_wants step_finished_at
 binary-reaches bare state left operator at right a b rest tight h reaches inside =
     let e = binary_with left operator at right in
     let same : expr_depth e ≡ max (expr_depth left) (expr_depth right) + 1 = expr-roll _ in
@@ -162,7 +165,7 @@ binary-reaches bare state left operator at right a b rest tight h reaches inside
 
 pub assign-reaches : (bare : Bool) (state : State) (target : Expr) (equals : Mark) (value : Expr) (a b rest : State) → level_of target ≤ 12 → a ≡ mark Eq equals ∷ b
     → Reaches bare state target a → Whole bare 13 b value rest → Reaches bare state (assign_to target equals value) rest
-unfolding behind_step
+unfolding got_at step_wants step_finished_at
 assign-reaches bare state target equals value a b rest tight h reaches inside =
     let e = assign_to target equals value in
     let same : expr_depth e ≡ max (expr_depth target) (expr_depth value) + 1 = expr-roll _ in
@@ -171,7 +174,7 @@ assign-reaches bare state target equals value a b rest tight h reaches inside =
 
 pub compute-reaches : (bare : Bool) (state : State) (target : Expr) (operator : AssignOp) (at : Span) (value : Expr) (a b rest : State) → level_of target ≤ 12
     → a ≡ punct (assign_mark operator) at ∷ b → Reaches bare state target a → Whole bare 13 b value rest → Reaches bare state (compute_to target operator at value) rest
-unfolding behind_step
+unfolding got_at step_wants step_finished_at
 compute-reaches bare state target operator at value a b rest tight h reaches inside =
     let e = compute_to target operator at value in
     let same : expr_depth e ≡ max (expr_depth target) (expr_depth value) + 1 = expr-roll _ in

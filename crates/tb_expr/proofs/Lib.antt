@@ -5,6 +5,7 @@ pub mod Begun
 pub mod Shrinks
 pub mod SpelledRows
 pub mod Spelled
+pub mod Got
 pub mod Takes
 pub mod TakesLines
 pub mod TakesOperands
@@ -19,3 +20,4 @@ pub mod AgainSteps
 pub mod AgainLines
 pub mod AgainAll
 pub mod Ways
+pub mod ReadConditions

@@ -1,23 +1,22 @@
--- What is read stands there: what is known of expressions one less deep, lists, fields and initializers.
+-- What is read stands there: what is known of expressions one less deep, lists and fields.
 use Rattle.std.proofs.Common.{◌≡◌, ℕ, zero, suc, ◌≤◌, Bool, true, false, List, [], ◌∷◌, length, Option, Some, None, refl, subst, inl, inr, arith}
 use Rattle.tb_perm.specs.declared.span.Span.{Span}
 use Rattle.tb_lex.specs.declared.keyword.Keyword.TheVariants as keyword_of
 use Rattle.tb_lex.specs.declared.punctuation.Punctuation.{Punctuation}
-use Rattle.tb_lex.specs.declared.punctuation.Punctuation.TheVariants.{CloseBrace, Comma, Colon, Eq}
+use Rattle.tb_lex.specs.declared.punctuation.Punctuation.TheVariants.{CloseBrace, Comma, Colon}
 use Rattle.tb_ast.specs.declared.expression.Expr.{Expr}
 use Rattle.tb_ast.specs.declared.expression.FieldValue.{FieldValue, roll-FieldValue}
-use Rattle.tb_ast.specs.declared.expression.Initializer.{Initializer, roll-Initializer}
 use Rattle.tb_ast.specs.declared.expression.Else.TheOpen.{FieldValue-F}
 use Rattle.tb_syntax.specs.State.{State}
-use Rattle.tb_syntax.specs.Marks.{mark_at, punct_at, has_mark}
+use Rattle.tb_syntax.specs.Marks.{punct_at, has_mark}
 use Rattle.tb_syntax.specs.Leaves.{name_at, has_keyword}
 use Rattle.tb_syntax.specs.Lists.{Listed, joined_lists, list_at, listed_at}
 use Rattle.tb_syntax.proofs.Options.{bind_some, chosen, some_is}
-use Rattle.tb_syntax.proofs.Marks.{mark-takes, punct-takes}
+use Rattle.tb_syntax.proofs.Marks.{punct-takes}
 use Rattle.tb_syntax.proofs.Tokens.{name-takes}
 use Rattle.tb_forms.specs.Beginnings.{begins_blocky}
-use Rattle.tb_expr.specs.Exprs.{Reader, whole_at, field_at, initializer_at}
-use Rattle.tb_expr.specs.Grammar.{IsWholeAt, IsBlockyAt, IsIfAt, AreExprsAt, NoExprs, LastExpr, MoreExprs, IsFieldAt, NamedField, ShortField, AreFieldsAt, NoFields, LastField, MoreFields, IsInitializerAt, NoInitializer, AnInitializer}
+use Rattle.tb_expr.specs.Exprs.{Reader, whole_at, field_at}
+use Rattle.tb_expr.specs.Grammar.{IsWholeAt, IsBlockyAt, IsIfAt, AreExprsAt, NoExprs, LastExpr, MoreExprs, IsFieldAt, NamedField, ShortField, AreFieldsAt, NoFields, LastField, MoreFields}
 
 -- what this reader takes is so written: whole from prefixes on, and up to level 0 what has a block of its own
 pub record Takes (one : Reader) : Type 0 where
@@ -71,7 +70,7 @@ module _ (depth : ℕ) (one : Reader) (h : Takes one) where
   pub value-takes : (state : State) (y : Expr × State) → one true 13 state ≡ Some y → IsWholeAt true 13 state y.0 y.1
   value-takes state y e = h.whole true 13 state y two-thirteen e
 
-  -- expressions, a field, fields, and an initializer
+  -- expressions, a field, and fields
   pub exprs-take : (close : Punctuation) (state : State) (y : Listed Expr × State) → listed_at (whole_at depth one) close state ≡ Some y → AreExprsAt close state y.0.0 y.0.1 y.1
   exprs-take close state y e =
       listed-are (whole_at depth one) close (AreExprsAt close) (λ s c. NoExprs c) (λ s x r stop. LastExpr x.0 (value-takes s x r) stop)
@@ -96,16 +95,3 @@ module _ (depth : ℕ) (one : Reader) (h : Takes one) where
   fields-take state y e =
       listed-are (field_at depth one) CloseBrace AreFieldsAt (λ s c. NoFields c) (λ s x r stop. LastField x.0 (field-takes s x r) stop)
       (λ s x m others commas rest r c are. MoreFields x.0 m.0 others commas x.1 m.1 (field-takes s x r) (punct-takes Comma x.1 m.0 m.1 c) are) state y e
-
-  pub initializer-takes : (state : State) (y : Option Initializer × State) → initializer_at depth one state ≡ Some y → IsInitializerAt state y.0 y.1
-  unfolding initializer_at
-  initializer-takes state y e =
-      let is : Option Initializer × State → Type 0 = λ z. IsInitializerAt state z.0 z.1 in
-      elim (chosen (has_mark Eq state) _ _ y e) [
-        | inl k ↦
-            let equals = bind_some (mark_at Eq state) _ y k.1 in
-            let value = bind_some (one true 13 equals.0.1) _ y equals.2 in
-            subst is (some_is (Some (roll-Initializer (record { equals = equals.0.0; value = value.0.0 })), value.0.1) y value.2)
-            (AnInitializer equals.0.0 value.0.0 equals.0.1 (mark-takes Eq state equals.0.0 equals.0.1 equals.1) (value-takes equals.0.1 value.0 value.1))
-        | inr k ↦ subst is (some_is (None, state) y k.1) (NoInitializer k.0)
-      ]

@@ -1,5 +1,5 @@
 -- What is read stands there: behind the front of an operand.
-use Rattle.std.proofs.Common.{◌≡◌, ℕ, suc, ◌≤◌, Bool, true, false, List, [], ◌∷◌, length, Option, Some, None, refl, sym, subst, ap, inl, inr, arith}
+use Rattle.std.proofs.Common.{◌≡◌, ℕ, suc, ◌≤◌, Bool, true, false, true≢false, if◌then◌else◌, List, [], ◌∷◌, length, Option, Some, None, refl, sym, subst, ap, ◌∙◌, inl, inr, arith}
 use Rattle.tb_perm.specs.declared.span.Span.{Span}
 use Rattle.tb_lex.specs.declared.keyword.Keyword.TheVariants as keyword_of
 use Rattle.tb_lex.specs.declared.punctuation.Punctuation.{Punctuation}
@@ -21,7 +21,7 @@ use Rattle.tb_syntax.specs.Reading.{◌>>=◌}
 use Rattle.tb_syntax.specs.State.{State, Begins}
 use Rattle.tb_syntax.specs.Marks.{punct_at, has_mark}
 use Rattle.tb_syntax.specs.Leaves.{has_keyword}
-use Rattle.tb_syntax.specs.Lists.{Listed, listed_at}
+use Rattle.tb_syntax.specs.Lists.{Listed}
 use Rattle.tb_syntax.proofs.Options.{bind_some, chosen, some_is}
 use Rattle.tb_syntax.proofs.Marks.{punct-takes}
 use Rattle.tb_syntax.proofs.Listed.{begins-has}
@@ -29,16 +29,20 @@ use Rattle.tb_forms.specs.declared.front.Front.{Front}
 use Rattle.tb_forms.specs.declared.front.Front.TheVariants as front
 use Rattle.tb_forms.specs.Beginnings.{begins_expr, begins_blocky}
 use Rattle.tb_forms.specs.Levels.{level_in, level_of}
-use Rattle.tb_forms.specs.Trees.{unary_to, borrow_to, return_to, unsafe_to, loop_to, struct_literal, call_of, print_of, panic_of, assert_of, array_in, repeat_in}
+use Rattle.tb_forms.specs.Trees.{unary_to, borrow_to, return_to, unsafe_to, loop_to, while_to, if_to, struct_literal, call_of, print_of, panic_of, assert_of, array_in, repeat_in}
 use Rattle.tb_forms.specs.Fronts.{front_at, optional_comma_at, IsFrontAt}
 use Rattle.tb_forms.specs.Closings.{group_of, group_at, count_at, repeated_in, repeat_at, array_at, literal_at, call_at, print_at, assert_at}
-use Rattle.tb_expr.specs.Exprs.{Reader, takes_values, whole_at, field_at, block_in_at, return_at, values_at, behind_front, operand_at}
+use Rattle.tb_forms.specs.declared.wanted.Wanted.TheVariants as wanted
+use Rattle.tb_forms.specs.declared.wanted.Got.{Got}
+use Rattle.tb_forms.specs.Wants.{takes_values, wants, finished_at}
+use Rattle.tb_expr.specs.Exprs.{Reader, got_at, operand_at}
 use Rattle.tb_expr.specs.Grammar.{IsExprAt, ALiteral, APath, AStruct, ACall, AUnit, AParen, ATuple, AnArray, ARepeat, ABlocky, AReturn, AReturnOf, ABreak, AContinue, APrint, APanic, AnAssert, AUnary, ABorrow, IsWholeAt, IsBlockyAt, ABlock, AnUnsafe, AWhile, ALoop, AnIf, IsIfAt, If, AreExprsAt, NoExprs, LastExpr}
 use Rattle.tb_forms.proofs.FrontTakes.{front-takes}
 use Rattle.tb_forms.proofs.Begins.{front-blocks, front-ifs, is_blocky, is_if}
 use Rattle.tb_forms.proofs.Counts.{count-takes, comma-takes}
+use Rattle.tb_expr.proofs.Got.{IsGot, GotNothing, GotOne, GotValues, GotFields, GotBody, GotRepeated, GotChosen, got-is}
 use Rattle.tb_expr.proofs.Takes.{Takes, two-thirteen, value-takes, exprs-take, fields-take}
-use Rattle.tb_expr.proofs.TakesLines.{block-taken, while-takes, if-taken}
+use Rattle.tb_expr.proofs.TakesLines.{block-taken, tested-takes, else-takes}
 
 -- an expression by its form
 abbrev pub Form : Type 0
@@ -162,133 +166,102 @@ module _ (depth : ℕ) (one : Reader) (h : Takes one) (bare : Bool) (start : Sta
   abbrev Goal : Front → Expr × State → Type 0
   Goal f y = IsOperand bare f start y
 
-  -- a struct literal, a call, and `return`
-  literal-takes : (path : Path) (opening : Span) (state : State) (y : Expr × State) → IsFrontAt depth bare start (front.StructLiteral path opening) state
-      → (listed_at (field_at depth one) CloseBrace state >>= λ fields. literal_at path opening fields.0 fields.1) ≡ Some y → Goal (front.StructLiteral path opening) y
-  unfolding literal_at
-  literal-takes path opening state y is e =
-      let fields = bind_some (listed_at (field_at depth one) CloseBrace state) _ y e in
-      let closing = bind_some (punct_at CloseBrace fields.0.1) _ y fields.2 in
-      subst (Goal (front.StructLiteral path opening)) (some_is (struct_literal path opening fields.0.0.0 fields.0.0.1 closing.0.0, closing.0.1) y closing.2)
-      (plain bare (front.StructLiteral path opening) start _ closing.0.1 refl refl one-two
-      (AStruct path opening fields.0.0.0 fields.0.0.1 closing.0.0 state fields.0.1 is (fields-take depth one h state fields.0 fields.1) (punct-takes CloseBrace fields.0.1 closing.0.0 closing.0.1 closing.1)))
+  -- `return`, with the longest expression behind it or none
+  return-takes : (at : Span) (state : State) (g : Got) (middle : State) (y : Expr × State) → Begins (keyword keyword_of.Return at) start state → (b : Bool) → begins_expr state ≡ b
+      → IsGot depth one (if b then wanted.One bare 13 else wanted.Nothing) state g middle → finished_at (front.Return at) g middle ≡ Some y → Goal (front.Return at) y
+  unfolding finished_at
+  return-takes at state g middle y begins true k (GotOne value read) e =
+      subst (Goal (front.Return at)) (some_is (return_to at (Some value), middle) y e)
+      (plain bare (front.Return at) start _ middle refl refl one-two (AReturnOf at value state begins (h.whole bare 13 state (value, middle) two-thirteen read)))
+  return-takes at state g middle y begins false k GotNothing e =
+      subst (Goal (front.Return at)) (some_is (return_to at None, state) y e) (plain bare (front.Return at) start _ state refl refl one-two (AReturn at begins k))
 
-  call-takes : (callee : ExprPath) (opening : Span) (state : State) (y : Expr × State) → IsFrontAt depth bare start (front.Call callee opening) state
-      → (listed_at (whole_at depth one) CloseParen state >>= λ arguments. call_at callee opening arguments.0 arguments.1) ≡ Some y → Goal (front.Call callee opening) y
-  unfolding call_at
-  call-takes callee opening state y is e =
-      let arguments = bind_some (listed_at (whole_at depth one) CloseParen state) _ y e in
-      let closing = bind_some (punct_at CloseParen arguments.0.1) _ y arguments.2 in
-      subst (Goal (front.Call callee opening)) (some_is (call_of callee opening arguments.0.0.0 arguments.0.0.1 closing.0.0, closing.0.1) y closing.2)
-      (plain bare (front.Call callee opening) start _ closing.0.1 refl refl one-two
-      (ACall callee depth opening arguments.0.0.0 arguments.0.0.1 closing.0.0 state arguments.0.1 is (exprs-take depth one h CloseParen state arguments.0 arguments.1)
-      (punct-takes CloseParen arguments.0.1 closing.0.0 closing.0.1 closing.1)))
-
-  return-takes : (at : Span) (state : State) (y : Expr × State) → Begins (keyword keyword_of.Return at) start state → return_at depth one bare at state ≡ Some y → Goal (front.Return at) y
-  unfolding return_at
-  return-takes at state y begins e =
-      elim (chosen (begins_expr state) _ _ y e) [
-        | inl k ↦
-            let value = bind_some (one bare 13 state) _ y k.1 in
-            subst (Goal (front.Return at)) (some_is (return_to at (Some value.0.0), value.0.1) y value.2)
-            (plain bare (front.Return at) start _ value.0.1 refl refl one-two (AReturnOf at value.0.0 state begins (h.whole bare 13 state value.0 two-thirteen value.1)))
-        | inr k ↦
-            subst (Goal (front.Return at)) (some_is (return_to at None, state) y k.1) (plain bare (front.Return at) start _ state refl refl one-two (AReturn at begins k.0))
-      ]
-
-  -- the values of a print, before the mark that closes it
-  values-take : (text : Option PrintText) (closing : Span) (state : State) (y : Listed Expr × State) (rest : State) → Begins (punct CloseParen closing) y.1 rest
-      → values_at depth one text state ≡ Some y → AreExprsAt CloseParen state y.0.0 y.0.1 y.1 × (takes_values text ≡ false → y.0.0 ≡ [])
-  unfolding values_at
-  values-take text closing state y rest ends e =
-      elim (chosen (takes_values text) _ _ y e) [
-        | inl k ↦ (exprs-take depth one h CloseParen state y k.1, untrue_of (takes_values text) k.0)
-        | inr k ↦
-            let same = some_is (([], []), state) y k.1 in
-            let is : Listed Expr × State → Type 0 = λ z. has_mark CloseParen z.1 ≡ true → AreExprsAt CloseParen state z.0.0 z.0.1 z.1 × (takes_values text ≡ false → z.0.0 ≡ []) in
-            let m : Mark = record { span = closing; glued = false } in
-            subst is same (λ has. (NoExprs has, λ _. refl)) (begins-has CloseParen m y.1 rest ends)
-      ]
-    where
-      untrue_of : {A : Type 0} (b : Bool) → b ≡ true → b ≡ false → A
-      untrue_of b t f = untrue b f t
-
-  -- `print!`, `println!` and `assert!`
-  print-takes : (name : Span) (newline : Bool) (bang opening : Span) (text : Option PrintText) (state : State) (y : Expr × State)
-      → IsFrontAt depth bare start (front.Print name newline bang opening text) state
-      → (values_at depth one text state >>= λ values. print_at name newline bang opening text values.0 values.1) ≡ Some y → Goal (front.Print name newline bang opening text) y
-  unfolding print_at
-  print-takes name newline bang opening text state y is e =
-      let values = bind_some (values_at depth one text state) _ y e in
-      let closing = bind_some (punct_at CloseParen values.0.1) _ y values.2 in
-      let ends = punct-takes CloseParen values.0.1 closing.0.0 closing.0.1 closing.1 in
-      let taken = values-take text closing.0.0 state values.0 closing.0.1 ends values.1 in
-      subst (Goal (front.Print name newline bang opening text)) (some_is (print_of name newline bang opening text values.0.0.0 values.0.0.1 closing.0.0, closing.0.1) y closing.2)
+  -- a print, with values or none
+  print-takes : (name : Span) (newline : Bool) (bang opening : Span) (text : Option PrintText) (state : State) (g : Got) (middle : State) (y : Expr × State)
+      → IsFrontAt depth bare start (front.Print name newline bang opening text) state → (b : Bool) → takes_values text ≡ b
+      → IsGot depth one (if b then wanted.Values CloseParen else wanted.Nothing) state g middle → finished_at (front.Print name newline bang opening text) g middle ≡ Some y
+      → Goal (front.Print name newline bang opening text) y
+  unfolding finished_at print_at
+  print-takes name newline bang opening text state g middle y is true k (GotValues values commas read) e =
+      let closing = bind_some (punct_at CloseParen middle) _ y e in
+      subst (Goal (front.Print name newline bang opening text)) (some_is (print_of name newline bang opening text values commas closing.0.0, closing.0.1) y closing.2)
       (plain bare (front.Print name newline bang opening text) start _ closing.0.1 refl refl one-two
-      (APrint name newline bang opening text values.0.0.0 values.0.0.1 closing.0.0 state values.0.1 is taken.0 taken.1 ends))
-
-  assert-takes : (name bang opening : Span) (state : State) (y : Expr × State) → IsFrontAt depth bare start (front.Assert name bang opening) state
-      → (whole_at depth one state >>= λ condition. assert_at name bang opening condition.0 condition.1) ≡ Some y → Goal (front.Assert name bang opening) y
-  unfolding assert_at
-  assert-takes name bang opening state y is e =
-      let condition = bind_some (one true 13 state) _ y e in
-      let comma = bind_some (optional_comma_at condition.0.1) _ y condition.2 in
-      let closing = bind_some (punct_at CloseParen comma.0.1) _ y comma.2 in
-      subst (Goal (front.Assert name bang opening)) (some_is (assert_of name bang opening condition.0.0 comma.0.0 closing.0.0, closing.0.1) y closing.2)
-      (plain bare (front.Assert name bang opening) start _ closing.0.1 refl refl one-two
-      (AnAssert name bang opening condition.0.0 comma.0.0 closing.0.0 state condition.0.1 comma.0.1 is (value-takes depth one h state condition.0 condition.1)
-      (comma-takes condition.0.1 comma.0.0 comma.0.1 comma.1) (punct-takes CloseParen comma.0.1 closing.0.0 closing.0.1 closing.1)))
+      (APrint name newline bang opening text values commas closing.0.0 state middle is (exprs-take depth one h CloseParen state ((values, commas), middle) read)
+      (λ none. absurd (true≢false (sym k ∙ none))) (punct-takes CloseParen middle closing.0.0 closing.0.1 closing.1)))
+  print-takes name newline bang opening text state g middle y is false k GotNothing e =
+      let closing = bind_some (punct_at CloseParen state) _ y e in
+      let ends = punct-takes CloseParen state closing.0.0 closing.0.1 closing.1 in
+      let m : Mark = record { span = closing.0.0; glued = false } in
+      subst (Goal (front.Print name newline bang opening text)) (some_is (print_of name newline bang opening text [] [] closing.0.0, closing.0.1) y closing.2)
+      (plain bare (front.Print name newline bang opening text) start _ closing.0.1 refl refl one-two
+      (APrint name newline bang opening text [] [] closing.0.0 state state is (NoExprs (begins-has CloseParen m state closing.0.1 ends)) (λ _. refl) ends))
 
   -- each front
-  behind-front-takes : (f : Front) (state : State) (y : Expr × State) → IsFrontAt depth bare start f state → behind_front depth one bare f state ≡ Some y → Goal f y
-  unfolding behind_front
-  behind-front-takes (front.Literal value) state y is e =
+  behind-front-takes : (f : Front) (state : State) (g : Got) (middle : State) (y : Expr × State) → IsFrontAt depth bare start f state → IsGot depth one (wants f bare state) state g middle
+      → finished_at f g middle ≡ Some y → Goal f y
+  unfolding wants finished_at literal_at call_at assert_at
+  behind-front-takes (front.Literal value) state g middle y is GotNothing e =
       subst (Goal (front.Literal value)) (some_is (roll-Expr (Expr-F.Literal value), state) y e) (plain bare (front.Literal value) start _ state refl refl one-two (ALiteral value is))
-  behind-front-takes (front.Path path) state y is e =
+  behind-front-takes (front.Path path) state g middle y is GotNothing e =
       subst (Goal (front.Path path)) (some_is (roll-Expr (Expr-F.Path path), state) y e) (plain bare (front.Path path) start _ state refl refl one-two (APath path depth is))
-  behind-front-takes (front.StructLiteral path opening) state y is e = literal-takes path opening state y is e
-  behind-front-takes (front.Call callee opening) state y is e = call-takes callee opening state y is e
-  behind-front-takes (front.Paren opening) state y is e =
-      let parts = bind_some (listed_at (whole_at depth one) CloseParen state) _ y e in
-      group-takes bare opening parts.0.0 start state parts.0.1 y is (exprs-take depth one h CloseParen state parts.0 parts.1) parts.2
-  behind-front-takes (front.Bracket opening) state y is e =
-      let elements = bind_some (listed_at (whole_at depth one) CloseBracket state) _ y e in
-      array-takes bare opening elements.0.0 start state elements.0.1 y is (exprs-take depth one h CloseBracket state elements.0 elements.1) elements.2
-  behind-front-takes front.Block state y is e =
-      let body = bind_some (block_in_at depth one state) _ y e in
+  behind-front-takes (front.StructLiteral path opening) state g middle y is (GotFields fields commas read) e =
+      let closing = bind_some (punct_at CloseBrace middle) _ y e in
+      subst (Goal (front.StructLiteral path opening)) (some_is (struct_literal path opening fields commas closing.0.0, closing.0.1) y closing.2)
+      (plain bare (front.StructLiteral path opening) start _ closing.0.1 refl refl one-two
+      (AStruct path opening fields commas closing.0.0 state middle is (fields-take depth one h state ((fields, commas), middle) read) (punct-takes CloseBrace middle closing.0.0 closing.0.1 closing.1)))
+  behind-front-takes (front.Call callee opening) state g middle y is (GotValues arguments commas read) e =
+      let closing = bind_some (punct_at CloseParen middle) _ y e in
+      subst (Goal (front.Call callee opening)) (some_is (call_of callee opening arguments commas closing.0.0, closing.0.1) y closing.2)
+      (plain bare (front.Call callee opening) start _ closing.0.1 refl refl one-two
+      (ACall callee depth opening arguments commas closing.0.0 state middle is (exprs-take depth one h CloseParen state ((arguments, commas), middle) read)
+      (punct-takes CloseParen middle closing.0.0 closing.0.1 closing.1)))
+  behind-front-takes (front.Paren opening) state g middle y is (GotValues parts commas read) e =
+      group-takes bare opening (parts, commas) start state middle y is (exprs-take depth one h CloseParen state ((parts, commas), middle) read) e
+  behind-front-takes (front.Bracket opening) state g middle y is (GotValues elements commas read) e =
+      array-takes bare opening (elements, commas) start state middle y is (exprs-take depth one h CloseBracket state ((elements, commas), middle) read) e
+  behind-front-takes front.Block state g middle y is (GotBody body read) e =
       let same : start ≡ state = is.1 in
-      subst (Goal front.Block) (some_is (roll-Expr (Expr-F.Block body.0.0), body.0.1) y body.2)
-      (blocked bare front.Block start (roll-Expr (Expr-F.Block body.0.0), body.0.1) refl (subst (λ s. IsBlockyAt s (roll-Expr (Expr-F.Block body.0.0)) body.0.1) (sym same) (ABlock body.0.0 (block-taken depth one h state body.0 body.1))))
-  behind-front-takes (front.Unsafe at) state y is e =
-      let body = bind_some (block_in_at depth one state) _ y e in
-      subst (Goal (front.Unsafe at)) (some_is (unsafe_to at body.0.0, body.0.1) y body.2)
-      (blocked bare (front.Unsafe at) start (unsafe_to at body.0.0, body.0.1) refl (AnUnsafe at body.0.0 state is (block-taken depth one h state body.0 body.1)))
-  behind-front-takes (front.While at) state y is e = blocked bare (front.While at) start y refl (while-takes depth one h at start state y is e)
-  behind-front-takes (front.Loop at) state y is e =
-      let body = bind_some (block_in_at depth one state) _ y e in
-      subst (Goal (front.Loop at)) (some_is (loop_to at body.0.0, body.0.1) y body.2)
-      (blocked bare (front.Loop at) start (loop_to at body.0.0, body.0.1) refl (ALoop at body.0.0 state is (block-taken depth one h state body.0 body.1)))
-  behind-front-takes (front.If at) state y is e =
-      let branch = if-taken depth one h at start state y is e in
-      record { is = ABlocky y.0 (AnIf y.0 branch); tight = if-tight start y.0 y.1 branch; blocky = λ _. AnIf y.0 branch; ifs = λ _. branch }
-  behind-front-takes (front.Return at) state y is e = return-takes at state y is e
-  behind-front-takes (front.Break span) state y is e =
+      subst (Goal front.Block) (some_is (roll-Expr (Expr-F.Block body), middle) y e)
+      (blocked bare front.Block start (roll-Expr (Expr-F.Block body), middle) refl
+      (subst (λ s. IsBlockyAt s (roll-Expr (Expr-F.Block body)) middle) (sym same) (ABlock body (block-taken depth one h state (body, middle) read))))
+  behind-front-takes (front.Unsafe at) state g middle y is (GotBody body read) e =
+      subst (Goal (front.Unsafe at)) (some_is (unsafe_to at body, middle) y e)
+      (blocked bare (front.Unsafe at) start (unsafe_to at body, middle) refl (AnUnsafe at body state is (block-taken depth one h state (body, middle) read)))
+  behind-front-takes (front.While at) state g middle y is (GotRepeated condition body read) e =
+      let t = tested-takes depth one h state ((condition, body), middle) read in
+      subst (Goal (front.While at)) (some_is (while_to at condition body, middle) y e)
+      (blocked bare (front.While at) start (while_to at condition body, middle) refl (AWhile at condition body state t.0 is t.1 t.2))
+  behind-front-takes (front.Loop at) state g middle y is (GotBody body read) e =
+      subst (Goal (front.Loop at)) (some_is (loop_to at body, middle) y e)
+      (blocked bare (front.Loop at) start (loop_to at body, middle) refl (ALoop at body state is (block-taken depth one h state (body, middle) read)))
+  behind-front-takes (front.If at) state g middle y is (GotChosen condition body otherwise a read more) e =
+      let t = tested-takes depth one h state ((condition, body), a) read in
+      let branch = If at condition body otherwise state t.0 a is t.1 t.2 (else-takes depth one h a (otherwise, middle) more) in
+      let x = if_to at condition body otherwise in
+      subst (Goal (front.If at)) (some_is (x, middle) y e)
+      (record { is = ABlocky x (AnIf x branch); tight = if-tight start x middle branch; blocky = λ _. AnIf x branch; ifs = λ _. branch })
+  behind-front-takes (front.Return at) state g middle y is read e = return-takes at state g middle y is (begins_expr state) refl read e
+  behind-front-takes (front.Break span) state g middle y is GotNothing e =
       subst (Goal (front.Break span)) (some_is (roll-Expr (Expr-F.Break span), state) y e) (plain bare (front.Break span) start _ state refl refl one-two (ABreak span is))
-  behind-front-takes (front.Continue span) state y is e =
+  behind-front-takes (front.Continue span) state g middle y is GotNothing e =
       subst (Goal (front.Continue span)) (some_is (roll-Expr (Expr-F.Continue span), state) y e) (plain bare (front.Continue span) start _ state refl refl one-two (AContinue span is))
-  behind-front-takes (front.Print name newline bang opening text) state y is e = print-takes name newline bang opening text state y is e
-  behind-front-takes (front.Panic name bang opening text closing) state y is e =
+  behind-front-takes (front.Print name newline bang opening text) state g middle y is read e = print-takes name newline bang opening text state g middle y is (takes_values text) refl read e
+  behind-front-takes (front.Panic name bang opening text closing) state g middle y is GotNothing e =
       subst (Goal (front.Panic name bang opening text closing)) (some_is (panic_of name bang opening text closing, state) y e)
       (plain bare (front.Panic name bang opening text closing) start _ state refl refl one-two (APanic name bang opening text closing is))
-  behind-front-takes (front.Assert name bang opening) state y is e = assert-takes name bang opening state y is e
-  behind-front-takes (front.Unary operator at) state y is e =
-      let operand = bind_some (one bare 2 state) _ y e in
-      subst (Goal (front.Unary operator at)) (some_is (unary_to operator at operand.0.0, operand.0.1) y operand.2)
-      (plain bare (front.Unary operator at) start _ operand.0.1 refl refl two-two (AUnary operator at operand.0.0 state is (h.whole bare 2 state operand.0 two-two operand.1)))
-  behind-front-takes (front.Borrow and kind) state y is e =
-      let operand = bind_some (one bare 2 state) _ y e in
-      subst (Goal (front.Borrow and kind)) (some_is (borrow_to and kind operand.0.0, operand.0.1) y operand.2)
-      (plain bare (front.Borrow and kind) start _ operand.0.1 refl refl two-two (ABorrow and kind operand.0.0 state is (h.whole bare 2 state operand.0 two-two operand.1)))
+  behind-front-takes (front.Assert name bang opening) state g middle y is (GotOne condition read) e =
+      let comma = bind_some (optional_comma_at middle) _ y e in
+      let closing = bind_some (punct_at CloseParen comma.0.1) _ y comma.2 in
+      subst (Goal (front.Assert name bang opening)) (some_is (assert_of name bang opening condition comma.0.0 closing.0.0, closing.0.1) y closing.2)
+      (plain bare (front.Assert name bang opening) start _ closing.0.1 refl refl one-two
+      (AnAssert name bang opening condition comma.0.0 closing.0.0 state middle comma.0.1 is (value-takes depth one h state (condition, middle) read)
+      (comma-takes middle comma.0.0 comma.0.1 comma.1) (punct-takes CloseParen comma.0.1 closing.0.0 closing.0.1 closing.1)))
+  behind-front-takes (front.Unary operator at) state g middle y is (GotOne operand read) e =
+      subst (Goal (front.Unary operator at)) (some_is (unary_to operator at operand, middle) y e)
+      (plain bare (front.Unary operator at) start _ middle refl refl two-two (AUnary operator at operand state is (h.whole bare 2 state (operand, middle) two-two read)))
+  behind-front-takes (front.Borrow and kind) state g middle y is (GotOne operand read) e =
+      subst (Goal (front.Borrow and kind)) (some_is (borrow_to and kind operand, middle) y e)
+      (plain bare (front.Borrow and kind) start _ middle refl refl two-two (ABorrow and kind operand state is (h.whole bare 2 state (operand, middle) two-two read)))
 
 -- what an operand is
 pub operand-takes : (depth : ℕ) (one : Reader) (h : Takes one) (bare : Bool) (state : State) (y : Expr × State) → operand_at depth one bare state ≡ Some y
@@ -297,4 +270,6 @@ unfolding operand_at
 operand-takes depth one h bare state y e =
     let f = bind_some (front_at depth bare state) _ y e in
     let is = front-takes depth bare state f.0.0 f.0.1 f.1 in
-    (f.0.0, front-blocks depth bare state f.0.0 f.0.1 is, front-ifs depth bare state f.0.0 f.0.1 is, behind-front-takes depth one h bare state f.0.0 f.0.1 y is f.2)
+    let g = bind_some (got_at depth one (wants f.0.0 bare f.0.1) f.0.1) _ y f.2 in
+    let got_there = got-is depth one (wants f.0.0 bare f.0.1) f.0.1 g.0 g.1 in
+    (f.0.0, front-blocks depth bare state f.0.0 f.0.1 is, front-ifs depth bare state f.0.0 f.0.1 is, behind-front-takes depth one h bare state f.0.0 f.0.1 g.0.0 g.0.1 y is got_there g.2)

@@ -38,14 +38,15 @@ use Rattle.tb_syntax.specs.Notes.{IsNote, NoteEnds}
 use Rattle.tb_forms.specs.declared.front.Front.TheVariants as front
 use Rattle.tb_forms.specs.declared.step.Step.TheVariants as step
 use Rattle.tb_forms.specs.Beginnings.{begins_expr, begins_blocky}
-use Rattle.tb_forms.specs.Levels.{left_level, right_level, level_of, continues}
+use Rattle.tb_forms.specs.Levels.{left_level, right_level, level_of, goes_on}
 use Rattle.tb_forms.specs.Trees.{unary_to, borrow_to, return_to, unsafe_to, loop_to, while_to, if_to, field_of, tuple_field_of, method_call, index_of, cast_to, binary_with, assign_to, compute_to, struct_literal, call_of, unit_in, paren_in, tuple_in, array_in, repeat_in, print_of, panic_of, assert_of}
 use Rattle.tb_forms.specs.Fronts.{IsFrontAt}
 use Rattle.tb_forms.specs.Steps.{IsStepAt}
 use Rattle.tb_forms.specs.Closings.{IsCount}
 use Rattle.tb_expr.specs.declared.lines.Line.{Line}
 use Rattle.tb_expr.specs.declared.lines.Line.TheVariants as line
-use Rattle.tb_expr.specs.Exprs.{block_in, ended_by, takes_values}
+use Rattle.tb_forms.specs.Wants.{takes_values}
+use Rattle.tb_expr.specs.Exprs.{block_in, ended_by}
 
 mutual
   -- The expression stands at the front of this state, and this rest behind it. A struct literal stands bare in it only where the
@@ -74,6 +75,7 @@ mutual
         → Begins (punct CloseBracket closing) d rest → IsExprAt bare state (repeat_in opening element semicolon count closing) rest
     ABlocky : {bare : Bool} {state rest : State} (e : Expr) → IsBlockyAt state e rest → IsExprAt bare state e rest
     AReturn : {bare : Bool} {state rest : State} (at : Span) → Begins (keyword keyword_of.Return at) state rest → begins_expr rest ≡ false → IsExprAt bare state (return_to at None) rest
+    -- what the longest expression cannot take may follow: the `return` is an operand then
     AReturnOf : {bare : Bool} {state rest : State} (at : Span) (value : Expr) (a : State)
         → Begins (keyword keyword_of.Return at) state a → IsWholeAt bare 13 a value rest → IsExprAt bare state (return_to at (Some value)) rest
     ABreak : {bare : Bool} {state rest : State} (span : Span) → Begins (keyword keyword_of.Break span) state rest → IsExprAt bare state (roll-Expr (Expr-F.Break span)) rest
@@ -114,9 +116,9 @@ mutual
         → IsExprAt bare state target a → level_of target ≤ 12 → a ≡ punct (assign_mark operator) at ∷ b → IsWholeAt bare 13 b value rest
         → IsExprAt bare state (compute_to target operator at value) rest
 
-  -- The expression binds at least as tightly as this level, and what follows is no part of it at this level.
+  -- The expression binds at least as tightly as this level, and takes nothing of what follows: it is the longest that stands there.
   pub data IsWholeAt : Bool → ℕ → State → Expr → State → Type 0 where
-    AWhole : {bare : Bool} {most : ℕ} {state rest : State} (e : Expr) → IsExprAt bare state e rest → level_of e ≤ most → continues most rest ≡ false → IsWholeAt bare most state e rest
+    AWhole : {bare : Bool} {most : ℕ} {state rest : State} (e : Expr) → IsExprAt bare state e rest → level_of e ≤ most → goes_on (level_of e) most rest ≡ false → IsWholeAt bare most state e rest
 
   -- An expression with a block of its own.
   pub data IsBlockyAt : State → Expr → State → Type 0 where

@@ -5,21 +5,16 @@ ghost use Rattle.tb_ast.specs.declared.expression.Expr.{Expr};
 ghost use Rattle.tb_ast.specs.Depth.{expr_depth};
 ghost use Rattle.tb_syntax.specs.State.{State};
 ghost use Rattle.tb_syntax.specs.Reading.{Gives};
-ghost use Rattle.tb_expr.specs.Exprs.{behind_front, operand_at, behind_step, further_at, longest_at, expr_at};
+ghost use Rattle.tb_expr.specs.Exprs.{got_at, operand_at, further_at, longest_at, expr_at};
 ghost use Rattle.tb_expr.specs.Grammar.{IsWholeAt};
 
-use crate::branches::{read_block, read_if, read_loop, read_unsafe, read_while};
-use crate::enclosed::{
-    read_array, read_assert, read_call, read_group, read_index, read_method, read_print,
-    read_struct,
-};
-use crate::operators::{
-    read_assigned, read_borrow, read_computed, read_return, read_right, read_unary,
-};
+use crate::blocks::block_within;
+use crate::branches::{read_else, tested};
+use crate::lists::{fields, values};
 use sqlite_items::Boxed;
 use std::alloc::Global;
 use tb_ast::Expr;
-use tb_forms::{Front, Step};
+use tb_forms::{Got, Wanted};
 use tb_syntax::{Cursor, ReadError};
 
 /// The loosest level: an assignment.
@@ -76,63 +71,54 @@ fn operand<'a>(
     ensures { Gives (λ x. x) result (operand_at depth (expr_at depth) bare cursor.entry) }
 {
     let (front, rest) = tb_forms::read_front(cursor, alloc, depth, bare)?;
-    behind_front(rest, alloc, depth, bare, front)
+    let wanted = front.wants(&rest, bare);
+    let (got, rest) = read_wanted(rest, alloc, depth, wanted)?;
+    tb_forms::finish(rest, alloc, front, got)
 }
 
-/// The operand that begins so.
+/// What a form wants, with expressions of at most this depth in it.
 #[cycle(expressions)]
-#[tactic(auto, unfolding(crate::specs::Exprs::behind_front))]
-fn behind_front<'a>(
+#[tactic(auto, unfolding(crate::specs::Exprs::got_at))]
+fn read_wanted<'a>(
     cursor: Cursor<'a>,
     alloc: Global,
     depth: u32,
-    bare: bool,
-    front: Front,
-) -> Result<(Boxed<Expr>, Cursor<'a>), ReadError>
-    ensures { Gives (λ x. x) result (behind_front depth (expr_at depth) bare front cursor.entry) }
+    wanted: Wanted,
+) -> Result<(Got, Cursor<'a>), ReadError>
+    ensures { Gives (λ x. x) result (got_at depth (expr_at depth) wanted cursor.entry) }
 {
-    match front {
-        Front::Literal(value) => Ok((Boxed::new(alloc, Expr::Literal(value))?, cursor)),
-        Front::Path(path) => Ok((Boxed::new(alloc, Expr::Path(path))?, cursor)),
-        Front::StructLiteral { path, opening } => read_struct(cursor, alloc, depth, path, opening),
-        Front::Call { callee, opening } => read_call(cursor, alloc, depth, callee, opening),
-        Front::Paren { opening } => read_group(cursor, alloc, depth, opening),
-        Front::Bracket { opening } => read_array(cursor, alloc, depth, opening),
-        Front::Block => read_block(cursor, alloc, depth),
-        Front::Unsafe { unsafe_keyword } => read_unsafe(cursor, alloc, depth, unsafe_keyword),
-        Front::While { while_keyword } => read_while(cursor, alloc, depth, while_keyword),
-        Front::Loop { loop_keyword } => read_loop(cursor, alloc, depth, loop_keyword),
-        Front::If { if_keyword } => read_if(cursor, alloc, depth, if_keyword),
-        Front::Return { return_keyword } => read_return(cursor, alloc, depth, bare, return_keyword),
-        Front::Break { span } => Ok((Boxed::new(alloc, Expr::Break { span })?, cursor)),
-        Front::Continue { span } => Ok((Boxed::new(alloc, Expr::Continue { span })?, cursor)),
-        Front::Print {
-            word,
-            newline,
-            bang,
-            opening,
-            text,
-        } => read_print(cursor, alloc, depth, word, newline, bang, opening, text),
-        Front::Panic {
-            word,
-            bang,
-            opening,
-            text,
-            closing,
-        } => Ok((
-            tb_forms::panic_of(alloc, word, bang, opening, text, closing)?,
-            cursor,
-        )),
-        Front::Assert {
-            word,
-            bang,
-            opening,
-        } => read_assert(cursor, alloc, depth, word, bang, opening),
-        Front::Unary {
-            operator,
-            operator_span,
-        } => read_unary(cursor, alloc, depth, bare, operator, operator_span),
-        Front::Borrow { and, kind } => read_borrow(cursor, alloc, depth, bare, and, kind),
+    match wanted {
+        Wanted::Nothing => Ok((Got::Nothing, cursor)),
+        Wanted::One { bare, most } => {
+            let (e, rest) = expr_within(cursor, alloc, depth, bare, most)?;
+            Ok((Got::One(e), rest))
+        }
+        Wanted::Values { close } => {
+            let (values, commas, rest) = values(cursor, alloc, depth, close)?;
+            Ok((Got::Values { values, commas }, rest))
+        }
+        Wanted::Fields => {
+            let (fields, commas, rest) = fields(cursor, alloc, depth)?;
+            Ok((Got::Fields { fields, commas }, rest))
+        }
+        Wanted::Body => {
+            let (body, rest) = block_within(cursor, alloc, depth)?;
+            Ok((Got::Body(body), rest))
+        }
+        Wanted::Repeated => {
+            let (condition, body, rest) = tested(cursor, alloc, depth)?;
+            Ok((Got::Repeated { condition, body }, rest))
+        }
+        Wanted::Chosen => {
+            let (condition, body, rest) = tested(cursor, alloc, depth)?;
+            let (otherwise, rest) = read_else(rest, alloc, depth)?;
+            let got = Got::Chosen {
+                condition,
+                body,
+                otherwise,
+            };
+            Ok((got, rest))
+        }
     }
 }
 
@@ -153,7 +139,7 @@ fn longest<'a>(
     let mut e = left;
     let mut rest = cursor;
     for _ in 0..steps {
-        if !tb_forms::continues(&rest, most) {
+        if !tb_forms::goes_on(e.get(), &rest, most) {
             return Ok((e, rest));
         }
         let (longer, after) = further(rest, alloc, depth, bare, e)?;
@@ -163,7 +149,7 @@ fn longest<'a>(
     Err(ReadError::Unexpected)
 }
 
-/// One step further behind this operand, where that binds tightly enough.
+/// One step further behind this left operand.
 #[cycle(expressions)]
 #[tactic(auto, unfolding(crate::specs::Exprs::further_at))]
 fn further<'a>(
@@ -176,48 +162,7 @@ fn further<'a>(
     ensures { Gives (λ x. x) result (further_at depth (expr_at depth) bare left cursor.entry) }
 {
     let (step, rest) = tb_forms::read_step(cursor, alloc, depth)?;
-    if tb_forms::level(left.get()) > step.operand_level() {
-        return Err(ReadError::Unexpected);
-    }
-    behind_step(rest, alloc, depth, bare, left, step)
-}
-
-/// This operand with the step that begins so.
-#[cycle(expressions)]
-#[tactic(auto, unfolding(crate::specs::Exprs::behind_step))]
-fn behind_step<'a>(
-    cursor: Cursor<'a>,
-    alloc: Global,
-    depth: u32,
-    bare: bool,
-    left: Boxed<Expr>,
-    step: Step,
-) -> Result<(Boxed<Expr>, Cursor<'a>), ReadError>
-    ensures { Gives (λ x. x) result (behind_step depth (expr_at depth) bare left step cursor.entry) }
-{
-    match step {
-        Step::Field { dot, name } => Ok((tb_forms::field_of(alloc, left, dot, name)?, cursor)),
-        Step::TupleField { dot, index } => {
-            Ok((tb_forms::tuple_field_of(alloc, left, dot, index)?, cursor))
-        }
-        Step::MethodCall {
-            dot,
-            name,
-            turbofish,
-            opening,
-        } => read_method(cursor, alloc, depth, left, dot, name, turbofish, opening),
-        Step::Index { opening } => read_index(cursor, alloc, depth, left, opening),
-        Step::Cast { as_keyword, ty } => {
-            Ok((tb_forms::cast_to(alloc, left, as_keyword, ty)?, cursor))
-        }
-        Step::Binary {
-            operator,
-            operator_mark,
-        } => read_right(cursor, alloc, depth, bare, left, operator, operator_mark),
-        Step::Assign { equals } => read_assigned(cursor, alloc, depth, bare, left, equals),
-        Step::AssignOp {
-            operator,
-            operator_span,
-        } => read_computed(cursor, alloc, depth, bare, left, operator, operator_span),
-    }
+    let wanted = step.wants(bare);
+    let (got, rest) = read_wanted(rest, alloc, depth, wanted)?;
+    tb_forms::finish_step(rest, alloc, left, step, got)
 }

@@ -4,12 +4,12 @@ ghost use Rattle.std.specs.Prelude.{◌≡◌};
 ghost use Rattle.tb_lex.specs.declared.punctuation.Punctuation.TheVariants.{CloseBrace};
 ghost use Rattle.tb_syntax.specs.Reading.{Gives};
 ghost use Rattle.tb_syntax.specs.Lists.{listed_at};
-ghost use Rattle.tb_expr.specs.Exprs.{whole_at, field_at, takes_values, values_at, expr_at};
+ghost use Rattle.tb_expr.specs.Exprs.{whole_at, field_at, expr_at};
 
 use crate::expressions::{LOOSEST, expr_within};
 use sqlite_items::Items;
 use std::alloc::Global;
-use tb_ast::{Expr, FieldValue, PrintText};
+use tb_ast::{Expr, FieldValue};
 use tb_lex::Punctuation;
 use tb_perm::Span;
 use tb_syntax::{Cursor, ReadError};
@@ -42,33 +42,6 @@ pub fn values<'a>(
         rest = after;
     }
     Err(ReadError::Unexpected)
-}
-
-/// Whether a comma stands behind the text of a print, and so values may follow.
-fn takes_values(text: &Option<PrintText>) -> bool
-    ensures { result ≡ takes_values text.now }
-{
-    match text {
-        Some(text) => text.comma.is_some(),
-        None => false,
-    }
-}
-
-/// The values behind the text of a print.
-#[cycle(expressions)]
-#[tactic(auto, unfolding(crate::specs::Exprs::values_at))]
-pub fn values_behind<'a>(
-    cursor: Cursor<'a>,
-    alloc: Global,
-    depth: u32,
-    text: &Option<PrintText>,
-) -> Result<(Items<Expr>, Items<Span>, Cursor<'a>), ReadError>
-    ensures { Gives (λ x. ((x.0, x.1), x.2)) result (values_at depth (expr_at depth) text.now cursor.entry) }
-{
-    if takes_values(text) {
-        return values(cursor, alloc, depth, Punctuation::CloseParen);
-    }
-    Ok((Items::new(alloc), Items::new(alloc), cursor))
 }
 
 /// The fields of a struct literal up to `}`, which comes next then.

@@ -31,9 +31,9 @@ use Rattle.tb_forms.specs.declared.front.Front.TheVariants as front
 use Rattle.tb_forms.specs.declared.step.Step.{Step}
 use Rattle.tb_forms.specs.declared.step.Step.TheVariants as step
 use Rattle.tb_forms.specs.Beginnings.{begins_with, mark_begins, keyword_begins, kind_begins, begins_expr, mark_blocks, kind_blocks, begins_blocky}
-use Rattle.tb_forms.specs.Levels.{binary_level, mark_level, level_with, level_at, is_within, continues}
+use Rattle.tb_forms.specs.Levels.{binary_level, left_level, mark_level, level_with, level_at, loosest_left, takes_on, goes_on}
 use Rattle.tb_forms.specs.Fronts.{IsFrontAt}
-use Rattle.tb_forms.specs.Steps.{step_level, IsStepAt}
+use Rattle.tb_forms.specs.Steps.{step_level, operand_level, IsStepAt}
 use Rattle.tb_forms.proofs.Firsts.{is_lone, lone-stands, lone-first, IsAnd, and-first, has-first, brace-first, first-no-token, token-stands, row-begins}
 
 -- What an operand begins with: a mark, or a token of another kind.
@@ -260,22 +260,27 @@ step-levels depth state (step.Binary operator at) rest h = rw h (binary-levels o
 step-levels depth state (step.Assign equals) rest h = rw h refl
 step-levels depth state (step.AssignOp operator at) rest h = rw h (assign-levels operator)
 
+binary-operands : (operator : BinaryOp) → left_level operator ≡ loosest_left (binary_level operator)
+binary-operands binary.Mul = refl
+binary-operands other = refl
+
+-- a step's left operand is the loosest that its level takes
+pub step-operands : (s : Step) → operand_level s ≡ loosest_left (step_level s)
+step-operands (step.Binary operator at) = binary-operands operator
+step-operands (step.Cast at ty) = refl
+step-operands other = refl
+
 -- none goes on up to level 0
 
-mark-nothing : (p : Punctuation) → is_within 0 (mark_level p) ≡ false
-mark-nothing punct_of.Dot = refl
-mark-nothing other = refl
+mark-nothing : (level : ℕ) (p : Punctuation) → takes_on level 0 (mark_level p) ≡ false
+mark-nothing level punct_of.Dot = refl
+mark-nothing level other = refl
 
-level-nothing : (r : Option (Punctuation × Mark × State)) (cast : Bool) → is_within 0 (level_with r cast) ≡ false
-level-nothing (Some x) cast = mark-nothing x.0
-level-nothing None true = refl
-level-nothing None false = refl
+level-nothing : (level : ℕ) (r : Option (Punctuation × Mark × State)) (cast : Bool) → takes_on level 0 (level_with r cast) ≡ false
+level-nothing level (Some x) cast = mark-nothing level x.0
+level-nothing level None true = refl
+level-nothing level None false = refl
 
-pub continues-nothing : (state : State) → continues 0 state ≡ false
-unfolding continues
-continues-nothing state = level-nothing (first_mark state) (has_keyword keyword_of.As state)
-
--- nothing that closes, divides, or begins a block goes on
-pub mark-stops : (most : ℕ) (state : State) → level_at state ≡ None → continues most state ≡ false
-unfolding continues
-mark-stops most state h = ap (is_within most) h
+pub goes-nowhere : (level : ℕ) (state : State) → goes_on level 0 state ≡ false
+unfolding goes_on
+goes-nowhere level state = level-nothing level (first_mark state) (has_keyword keyword_of.As state)

@@ -1,5 +1,5 @@
 -- How tightly operators bind: levels from 1, the tightest, to 13.
-use Rattle.std.specs.Prelude.{ℕ, ◌-◌, Bool, true, false, nat_le, if◌then◌else◌, Option, None, Some}
+use Rattle.std.specs.Prelude.{ℕ, ◌-◌, Bool, true, false, nat_le, ◌==◌, ◌&&◌, if◌then◌else◌, Option, None, Some}
 use Rattle.tb_lex.specs.declared.keyword.Keyword.TheVariants as keyword_of
 use Rattle.tb_lex.specs.declared.punctuation.Punctuation.{Punctuation}
 use Rattle.tb_lex.specs.declared.punctuation.Punctuation.TheVariants as punct_of
@@ -120,10 +120,15 @@ level_with None false = None
 abbrev pub level_at : State → Option ℕ
 level_at state = level_with (first_mark state) (has_keyword keyword_of.As state)
 
-abbrev pub is_within : ℕ → Option ℕ → Bool
-is_within most None = false
-is_within most (Some level) = nat_le level most
+-- the loosest left operand of an expression of this level: comparisons are not chained, and assignments group to the right
+abbrev pub loosest_left : ℕ → ℕ
+loosest_left level = if level == 10 then 9 else (if level == 13 then 12 else level)
 
--- an expression goes on with what comes next, up to this level
-unfoldable pub continues : ℕ → State → Bool
-continues most state = is_within most (level_at state)
+-- an expression of this level is the left operand of one of the next level, up to a level
+abbrev pub takes_on : ℕ → ℕ → Option ℕ → Bool
+takes_on level most None = false
+takes_on level most (Some next) = nat_le next most && nat_le level (loosest_left next)
+
+-- an expression of this level goes on with what comes next, up to a level
+unfoldable pub goes_on : ℕ → ℕ → State → Bool
+goes_on level most state = takes_on level most (level_at state)

@@ -4,3 +4,4 @@ pub mod Trees
 pub mod Fronts
 pub mod Steps
 pub mod Closings
+pub mod Wants

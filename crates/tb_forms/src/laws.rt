@@ -5,9 +5,9 @@ ghost use Rattle.tb_syntax.specs.State.{State};
 ghost use Rattle.tb_forms.specs.declared.front.Front.{Front};
 ghost use Rattle.tb_forms.specs.declared.step.Step.{Step};
 ghost use Rattle.tb_forms.specs.Beginnings.{begins_expr};
-ghost use Rattle.tb_forms.specs.Levels.{level_at};
+ghost use Rattle.tb_forms.specs.Levels.{level_at, loosest_left};
 ghost use Rattle.tb_forms.specs.Fronts.{front_at, IsFrontAt};
-ghost use Rattle.tb_forms.specs.Steps.{step_at, step_level, IsStepAt};
+ghost use Rattle.tb_forms.specs.Steps.{step_at, step_level, operand_level, IsStepAt};
 
 /// What operands begin with.
 pub fn law_fronts()
@@ -21,4 +21,5 @@ pub fn law_steps()
     ensures takes { (depth : ℕ) (state : State) (step : Step) (rest : State) → step_at depth state ≡ Some (step, rest) → IsStepAt depth state step rest }
     ensures again { (depth : ℕ) (state : State) (step : Step) (rest : State) → IsStepAt depth state step rest → step_at depth state ≡ Some (step, rest) }
     ensures levels { (depth : ℕ) (state : State) (step : Step) (rest : State) → IsStepAt depth state step rest → level_at state ≡ Some (step_level step) }
+    ensures operands { (step : Step) → operand_level step ≡ loosest_left (step_level step) }
 {}

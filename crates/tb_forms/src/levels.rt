@@ -23,11 +23,17 @@
 //! left, but for assignments.
 
 ghost use Rattle.std.specs.Prelude.{◌≡◌};
-ghost use Rattle.tb_forms.specs.Levels.{binary_level, left_level, right_level, level_of, binary_of, assign_of, mark_level, is_within, continues};
+ghost use Rattle.tb_forms.specs.Levels.{binary_level, right_level, level_of, binary_of, assign_of, mark_level, level_at, loosest_left, takes_on, goes_on};
 
 use tb_ast::{AssignOp, BinaryOp, Expr};
 use tb_lex::{Keyword, Punctuation};
 use tb_syntax::Cursor;
+
+/// The loosest level: an assignment.
+pub(crate) const LOOSEST: u32 = 13;
+
+/// The level of what a prefix stands before.
+pub(crate) const PREFIX: u32 = 2;
 
 /// The level of an operator between two operands.
 pub(crate) fn binary_level(operator: BinaryOp) -> u32
@@ -47,16 +53,6 @@ pub(crate) fn binary_level(operator: BinaryOp) -> u32
     }
 }
 
-/// The loosest level on the left of an operator: its own, but for comparisons, which are not chained.
-pub(crate) fn left_level(operator: BinaryOp) -> u32
-    ensures { result ≡ left_level operator }
-{
-    match binary_level(operator) {
-        10 => 9,
-        level => level,
-    }
-}
-
 /// The loosest level on the right of an operator: one below its own, so that it groups to the left.
 pub fn right_level(operator: BinaryOp) -> u32
     ensures level { result ≡ right_level operator }
@@ -65,8 +61,8 @@ pub fn right_level(operator: BinaryOp) -> u32
 }
 
 /// The level of an expression.
-pub fn level(e: &Expr) -> u32
-    ensures level { result ≡ level_of e.now }
+fn level_of(e: &Expr) -> u32
+    ensures { result ≡ level_of e.now }
 {
     match e {
         Expr::Unary { .. } | Expr::Borrow { .. } => 2,
@@ -140,24 +136,55 @@ fn mark_level(mark: Punctuation) -> Option<u32>
     }
 }
 
-/// Whether there is a level, up to this one.
-fn is_within(most: u32, level: Option<u32>) -> bool
-    ensures { result ≡ is_within most level }
+/// The loosest left operand of an expression of this level: comparisons are not chained, and assignments
+/// group to the right.
+fn loosest_left(level: u32) -> u32
+    ensures { result ≡ loosest_left level }
 {
-    match level {
-        Some(level) => level <= most,
+    if level == 10 {
+        return 9;
+    }
+    if level == 13 {
+        return 12;
+    }
+    level
+}
+
+/// Whether an expression of this level is the left operand of one of the next level, up to a level.
+fn takes_on(level: u32, most: u32, next: Option<u32>) -> bool
+    ensures { result ≡ takes_on level most next }
+{
+    match next {
+        Some(next) => {
+            let loosest = loosest_left(next);
+            next <= most && level <= loosest
+        }
         None => false,
     }
 }
 
-/// Whether an expression goes on with what comes next, up to this level: with `.`, `[`, `as` or an
-/// operator that makes an expression of the level or of a tighter one.
-#[tactic(auto, unfolding(crate::specs::Levels::continues))]
-pub fn continues(cursor: &Cursor<'_>, most: u32) -> bool
-    ensures continues { result ≡ continues most cursor.now }
+/// The level of an expression that goes on with what comes next, if one does.
+fn level_at(cursor: &Cursor<'_>) -> Option<u32>
+    ensures { result ≡ level_at cursor.now }
 {
     match cursor.first_mark() {
-        Some((mark, _, _)) => is_within(most, mark_level(mark)),
-        None => cursor.has_keyword(Keyword::As) && 3 <= most,
+        Some((mark, _, _)) => mark_level(mark),
+        None => {
+            if cursor.has_keyword(Keyword::As) {
+                return Some(3);
+            }
+            None
+        }
     }
+}
+
+/// Whether this expression goes on with what comes next: with `.`, `[`, `as` or an operator that takes it as
+/// its left operand, and makes an expression up to the level `most`.
+#[tactic(auto, unfolding(crate::specs::Levels::goes_on))]
+pub fn goes_on(e: &Expr, cursor: &Cursor<'_>, most: u32) -> bool
+    ensures goes_on { result ≡ goes_on (level_of e.now) most cursor.now }
+{
+    let level = level_of(e);
+    let next = level_at(cursor);
+    takes_on(level, most, next)
 }

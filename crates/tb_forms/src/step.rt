@@ -1,9 +1,5 @@
 //! How an expression goes on behind an operand.
 
-ghost use Rattle.std.specs.Prelude.{◌≡◌};
-ghost use Rattle.tb_forms.specs.Steps.{operand_level};
-
-use crate::levels::left_level;
 use tb_ast::{AssignOp, BinaryOp, Ident, IntLiteral, Mark, Turbofish, TypeExpr};
 use tb_perm::Span;
 
@@ -50,18 +46,4 @@ pub enum Step {
         operator: AssignOp,
         operator_span: Span,
     },
-}
-
-impl Step {
-    /// The loosest level that the operand before it may have.
-    pub fn operand_level(&self) -> u32
-        ensures level { result ≡ operand_level self.now }
-    {
-        match self {
-            Step::Cast { .. } => 3,
-            Step::Binary { operator, .. } => left_level(*operator),
-            Step::Assign { .. } | Step::AssignOp { .. } => 12,
-            _ => 1,
-        }
-    }
 }

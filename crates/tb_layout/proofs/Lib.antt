@@ -1,5 +1,4 @@
-pub mod Capping
-pub mod Extents
 pub mod Placing
-pub mod Marking
 pub mod Ranges
+pub mod Marking
+pub mod Walking

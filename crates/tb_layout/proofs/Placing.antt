@@ -1,5 +1,5 @@
 -- Parts within the limits, placed one after another.
-use Rattle.std.proofs.Common.{◌≡◌, refl, sym, ◌∙◌, ap, subst, ℕ, ◌+◌, ◌≤◌, ◌<◌, Bool, true, ◌&&◌, List, [], ◌∷◌, ◌++◌, length, map, drop, get_or, Some, arith, add-one}
+use Rattle.std.proofs.Common.{◌≡◌, refl, sym, ◌∙◌, ap, subst, ℕ, ◌+◌, ◌≤◌, ◌<◌, Bool, true, ◌&&◌, List, [], ◌∷◌, ◌++◌, length, map, drop, get_or, Some, Option, arith, add-one}
 use Rattle.std.specs.Prelude.{nat_le}
 use Rattle.std.specs.List.{AllByRecursion}
 use Rattle.std.specs.Cmp.{first_so, second_so}
@@ -10,22 +10,33 @@ use Rattle.tb_types.specs.declared.shape.Ty.{Ty}
 use Rattle.tb_types.specs.declared.shape.TyShape.{TyShape}
 use Rattle.tb_types.specs.declared.shape.TyShape.TheVariants.{Tuple, Struct}
 use Rattle.tb_types.specs.declared.item.Field.{Field}
-use Rattle.tb_types.specs.Table.{TypeTable, IsType, shape_at}
-use Rattle.tb_types.specs.Folded.{node_in, types_in}
+use Rattle.tb_types.specs.Table.{TypeTable, IsType, shape_at, fields_at, named_in}
+use Rattle.tb_types.specs.Folded.{Node, node_in, types_in, types_of}
 use Rattle.tb_types.specs.Sound.{AreTypes}
-use Rattle.tb_layout.specs.declared.extent.Extent.{Extent}
-use Rattle.tb_layout.specs.declared.extent.Row.{Row}
-use Rattle.tb_layout.specs.Extent.{rounded, nothing, with_part, laid, together, extent_in, extent_of}
-use Rattle.tb_layout.specs.Layout.{is_within, has_layout, places}
-use Rattle.tb_layout.specs.LaysOut.{AreLaidOut, LaysOut}
-use Rattle.tb_layout.proofs.Capping.{rounded_above, laid_align, laid_levels}
-use Rattle.tb_layout.proofs.Extents.{aligned, extent_is}
+use Rattle.tb_types.specs.declared.extent.Extent.{Extent}
+use Rattle.tb_types.specs.declared.extent.Row.{Row}
+use Rattle.tb_types.specs.Extent.{rounded, nothing, with_part, laid, together, extent_in, extent_by, extent_of, is_within, fits}
+use Rattle.tb_layout.specs.Layout.{places}
+use Rattle.tb_layout.specs.LaysOut.{AreLaidOut, AreRoomy, LaysOut}
+use Rattle.tb_types.proofs.Capping.{AreAligned, rounded_above, laid_align, laid_levels}
+use Rattle.tb_types.proofs.Extents.{some_extent, aligned}
+use Rattle.tb_types.proofs.CallerLemmas.{folded_step, parts_types}
+use Rattle.tb_types.proofs.Within.{all_to, node_found}
 
 abbrev pub row_at : ℕ → Row
 row_at end = record nothing { end = end }
 
-abbrev pub AreAligned : List Extent → Type 0
-AreAligned = AllByRecursion (λ (part : Extent). 1 ≤ part.align)
+-- the extent of a type by its shape
+pub extent_is : (types : TypeTable) → AreTypes types → (ty : Ty) (shape : TyShape) → IsType types ty → shape_at types ty ≡ Some shape
+    → extent_of types ty ≡ extent_in (node_in types shape).tree (map (extent_of types) (node_in types shape).parts)
+extent_is types sound ty shape h e = folded_step extent_by types sound ty shape h e
+
+-- what a shape names, and what lies in it, are types
+pub named_types : (types : TypeTable) → AreTypes types → (ty : Ty) (shape : TyShape) → IsType types ty → shape_at types ty ≡ Some shape → AllByRecursion (IsType types) (named_in shape)
+named_types types sound ty shape h e = all_to (named_in shape) (sound.names ty shape e) (λ part lower. omega arith)
+
+pub own_parts : (types : TypeTable) → AreTypes types → (ty : Ty) (shape : TyShape) → IsType types ty → shape_at types ty ≡ Some shape → AllByRecursion (IsType types) (node_in types shape).parts
+own_parts types sound ty shape h e = subst (λ (node : Node). AllByRecursion (IsType types) node.parts) (node_found types ty shape e) (parts_types types sound ty h)
 
 pub end_grows : (row : Row) (parts : List Extent) → AreAligned parts → row.end ≤ (laid row parts).end
 end_grows row [] h = omega arith
@@ -98,7 +109,7 @@ both_true a b e f = ap (λ x. x && b) e ∙ f
 within_is : (extent : Extent) → extent.size ≤ 1048576 → extent.parts ≤ 4194304 → extent.levels ≤ 1024 → is_within extent ≡ true
 within_is extent a b c = both_true (nat_le extent.size 1048576) (nat_le extent.parts 4194304 && nat_le extent.levels 1024) (le-leb extent.size 1048576 a) (both_true (nat_le extent.parts 4194304) (nat_le extent.levels 1024) (le-leb extent.parts 4194304 b) (le-leb extent.levels 1024 c))
 
-each_within : (types : TypeTable) (row : Row) (parts : List Ty) → row.end ≤ 1048576 → row.parts ≤ 4194304 → row.levels ≤ 1024 → AllByRecursion (IsNoLarger row) (map (extent_of types) parts) → AllByRecursion (λ part. has_layout types part ≡ true) parts
+each_within : (types : TypeTable) (row : Row) (parts : List Ty) → row.end ≤ 1048576 → row.parts ≤ 4194304 → row.levels ≤ 1024 → AllByRecursion (IsNoLarger row) (map (extent_of types) parts) → AllByRecursion (λ part. fits types part ≡ true) parts
 each_within types row [] a b c h = tt
 each_within types row (part ∷ parts) a b c h =
     let s : (extent_of types part).size ≤ row.end = h.0.size in
@@ -120,14 +131,84 @@ laid_out types parts h =
       room = omega arith;
     }
 
-by_shape : (types : TypeTable) (shape : TyShape) → is_within (extent_in types shape (map (extent_of types) (node_in types.items shape).parts)) ≡ true → LaysOut types shape
+by_shape : (types : TypeTable) (shape : TyShape) → is_within (extent_in (node_in types shape).tree (map (extent_of types) (node_in types shape).parts)) ≡ true → LaysOut types shape
 by_shape types (Tuple parts) h = laid_out types parts h
-by_shape types (Struct item) h = laid_out types (node_in types.items (Struct item)).parts h
+by_shape types (Struct item) h = laid_out types (node_in types (Struct item)).parts h
 by_shape types shape h = tt
 
 -- the parts of a type that has a layout have one
-pub lays_out : (types : TypeTable) → AreTypes types → (ty : Ty) (shape : TyShape) → IsType types ty → shape_at types ty ≡ Some shape → has_layout types ty ≡ true → LaysOut types shape
+pub lays_out : (types : TypeTable) → AreTypes types → (ty : Ty) (shape : TyShape) → IsType types ty → shape_at types ty ≡ Some shape → fits types ty ≡ true → LaysOut types shape
 lays_out types sound ty shape h e layout = by_shape types shape (subst (λ (extent : Extent). is_within extent ≡ true) (extent_is types sound ty shape h e) layout)
 
 pub room_next : (end next : ℕ) (part : Extent) (parts : List Extent) → HasRoom end part parts → next ≡ rounded end part.align + part.size → (laid (row_at next) parts).end ≤ 1048576
 room_next end next part parts room e = subst (λ n. (laid (row_at n) parts).end ≤ 1048576) (sym e) room.rest_fits
+
+levels_by : (types : TypeTable) (row : Row) (parts : List Ty) (left : ℕ) → row.levels + 1 ≤ left → AllByRecursion (IsNoLarger row) (map (extent_of types) parts) → AllByRecursion (λ part. (extent_of types part).levels + 1 ≤ left) parts
+levels_by types row [] left h k = tt
+levels_by types row (part ∷ parts) left h k = (let l : (extent_of types part).levels ≤ row.levels = k.0.levels in omega arith, levels_by types row parts left h k.1)
+
+-- the parts of a type that is not too large are laid in time
+pub are_roomy : (types : TypeTable) (at left : ℕ) (parts : List Ty) → AllByRecursion (IsType types) parts → is_within (together (map (extent_of types) parts)) ≡ true → (together (map (extent_of types) parts)).levels ≤ left
+    → at + (together (map (extent_of types) parts)).size ≤ 1048576 → AreRoomy types at left 0 parts
+are_roomy types at left parts are within levels room =
+    let row : Row = laid nothing (map (extent_of types) parts) in
+    let align : 1 ≤ row.align = laid_align nothing (map (extent_of types) parts) in
+    let up : row.end ≤ rounded row.end row.align = rounded_above row.end row.align align in
+    record {
+      types = are;
+      each = (laid_out types parts within).each;
+      levels = levels_by types row parts left levels (no_larger nothing (map (extent_of types) parts) (aligned types parts));
+      room = omega arith;
+    }
+
+pub record IsRoomy (types : TypeTable) (at left end : ℕ) (part : Ty) (more : List Ty) : Type 0 where
+  pub ty : IsType types part
+  pub fits_limits : fits types part ≡ true
+  pub levels : (extent_of types part).levels + 1 ≤ left
+  pub end_small : end ≤ 1048576
+  pub room : at + (rounded end (extent_of types part).align + (extent_of types part).size) ≤ 1048576
+  pub rest : (to : ℕ) → to ≡ rounded end (extent_of types part).align + (extent_of types part).size → AreRoomy types at left to more
+
+pub roomy_step : (types : TypeTable) (at left end : ℕ) (rest : List Ty) (part : Ty) (more : List Ty) → rest ≡ part ∷ more → AreRoomy types at left end rest → IsRoomy types at left end part more
+roomy_step types at left end rest part more is roomy =
+    let now : AreRoomy types at left end (part ∷ more) = subst (AreRoomy types at left end) is roomy in
+    let next : Row = with_part (row_at end) (extent_of types part) in
+    let up : end ≤ rounded end (extent_of types part).align = rounded_above end (extent_of types part).align (some_extent types part).align.0 in
+    let grows : rounded end (extent_of types part).align + (extent_of types part).size ≤ (laid next (map (extent_of types) more)).end = end_grows next (map (extent_of types) more) (aligned types more) in
+    let room : at + (laid next (map (extent_of types) more)).end ≤ 1048576 = now.room in
+    record {
+      ty = now.types.0;
+      fits_limits = now.each.0;
+      levels = now.levels.0;
+      end_small = omega arith;
+      room = omega arith;
+      rest = λ to e. record {
+        types = now.types.1;
+        each = now.each.1;
+        levels = now.levels.1;
+        room = (let s : (laid (row_at to) (map (extent_of types) more)).end ≡ (laid next (map (extent_of types) more)).end = same_end (row_at to) next (map (extent_of types) more) e in omega arith);
+      };
+    }
+
+-- what lies in a shape that is not too large is laid in time
+RoomyShape : TypeTable → ℕ → ℕ → TyShape → Type 0
+RoomyShape types at left (Tuple parts) = AreRoomy types at left 0 parts
+RoomyShape types at left (Struct item) = AreRoomy types at left 0 (node_in types (Struct item)).parts
+RoomyShape types at left shape = Unit {0}
+
+roomy_shape : (types : TypeTable) (at left : ℕ) (shape : TyShape) → AllByRecursion (IsType types) (node_in types shape).parts → is_within (extent_in (node_in types shape).tree (map (extent_of types) (node_in types shape).parts)) ≡ true
+    → (extent_in (node_in types shape).tree (map (extent_of types) (node_in types shape).parts)).levels ≤ left → at + (extent_in (node_in types shape).tree (map (extent_of types) (node_in types shape).parts)).size ≤ 1048576 → RoomyShape types at left shape
+unfolding RoomyShape
+roomy_shape types at left (Tuple parts) are within levels room = are_roomy types at left parts are within levels room
+roomy_shape types at left (Struct item) are within levels room = are_roomy types at left (node_in types (Struct item)).parts are within levels room
+roomy_shape types at left shape are within levels room = tt
+
+module _ (types : TypeTable) (at left : ℕ) (shape : TyShape) (are : AllByRecursion (IsType types) (node_in types shape).parts) (within : is_within (extent_in (node_in types shape).tree (map (extent_of types) (node_in types shape).parts)) ≡ true)
+    (levels : (extent_in (node_in types shape).tree (map (extent_of types) (node_in types shape).parts)).levels ≤ left) (room : at + (extent_in (node_in types shape).tree (map (extent_of types) (node_in types shape).parts)).size ≤ 1048576) where
+  pub roomy_tuple : (parts given : List Ty) → shape ≡ Tuple parts → given ≡ parts → AreRoomy types at left 0 given
+  unfolding RoomyShape
+  roomy_tuple parts given e f = subst (AreRoomy types at left 0) (sym f) (subst (RoomyShape types at left) e (roomy_shape types at left shape are within levels room))
+
+  pub roomy_struct : (item : ℕ) (fields : List Field) → shape ≡ Struct item → fields_at types item ≡ Some fields → AreRoomy types at left 0 (types_in fields)
+  unfolding RoomyShape
+  roomy_struct item fields e f = subst (λ (found : Option (List Field)). AreRoomy types at left 0 (types_of found)) f (subst (RoomyShape types at left) e (roomy_shape types at left shape are within levels room))

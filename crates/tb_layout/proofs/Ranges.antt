@@ -1,11 +1,11 @@
 -- The ranges of marks have the marked bytes, and are the longest.
-use Rattle.std.proofs.Common.{◌≡◌, refl, sym, ◌∙◌, ap, ℕ, suc, zero, ◌+◌, ◌-◌, ◌<◌, ◌≤◌, Bool, true, false, ◌&&◌, ◌||◌, List, [], ◌∷◌, Option, Some, None, arith, inl, inr}
+use Rattle.std.proofs.Common.{◌≡◌, refl, sym, ◌∙◌, ap, subst, ℕ, suc, zero, ◌+◌, ◌-◌, ◌<◌, ◌≤◌, Bool, true, false, ◌&&◌, ◌||◌, List, [], ◌∷◌, length, Option, Some, None, arith, inl, inr}
 use Rattle.std.specs.Prelude.{nat_le, nat_lt}
 use Rattle.std.proofs.lemmas.Bool.{cases_order, le-leb}
 use Rattle.std.proofs.lemmas.Bool.Decides.{leb_tells}
 use Rattle.tb_perm.specs.declared.new_tag.CellRange.{CellRange}
 use Rattle.tb_perm.specs.Event.{is_within}
-use Rattle.tb_perm.specs.Reborrow.{is_in_cells}
+use Rattle.tb_perm.specs.Reborrow.{is_in_cells, AreCells}
 use Rattle.tb_layout.specs.Cells.{ranges_from, ranges_of, is_marked, AreLongest}
 
 at_most : (a b : ℕ) → a ≤ b → nat_le a b ≡ true
@@ -156,3 +156,28 @@ longest_from (false ∷ marks) at (Some lo) h =
 pub ranges_longest : (marks : List Bool) → AreLongest (ranges_of marks)
 unfolding Begun
 ranges_longest marks = (longest_from marks 0 None tt).0
+
+lower : (a b hi : ℕ) (ranges : List CellRange) → a ≤ b → AreCells b hi ranges → AreCells a hi ranges
+lower a b hi [] h are = omega arith
+lower a b hi (range ∷ ranges) h are = (omega arith, are.1, are.2)
+
+ranges_within : (marks : List Bool) (at : ℕ) (begun : Option ℕ) → Begun begun at → AreCells (first begun at) (at + length marks) (ranges_from at begun marks)
+unfolding Begun first
+ranges_within [] at None h = omega arith
+ranges_within [] at (Some lo) h = (omega arith, h, omega arith)
+ranges_within (true ∷ marks) at None h = subst (λ hi. AreCells at hi (ranges_from (at + 1) (Some at) marks)) (let e : at + 1 + length marks ≡ at + suc (length marks) = omega arith in e) (ranges_within marks (at + 1) (Some at) (omega arith))
+ranges_within (false ∷ marks) at None h =
+    lower at (at + 1) (at + suc (length marks)) (ranges_from (at + 1) None marks) (omega arith)
+    (subst (λ hi. AreCells (at + 1) hi (ranges_from (at + 1) None marks)) (let e : at + 1 + length marks ≡ at + suc (length marks) = omega arith in e) (ranges_within marks (at + 1) None tt))
+ranges_within (true ∷ marks) at (Some lo) h = subst (λ hi. AreCells lo hi (ranges_from (at + 1) (Some lo) marks)) (let e : at + 1 + length marks ≡ at + suc (length marks) = omega arith in e) (ranges_within marks (at + 1) (Some lo) (omega arith))
+ranges_within (false ∷ marks) at (Some lo) h = (
+  omega arith,
+  h,
+  lower at (at + 1) (at + suc (length marks)) (ranges_from (at + 1) None marks) (omega arith)
+      (subst (λ hi. AreCells (at + 1) hi (ranges_from (at + 1) None marks)) (let e : at + 1 + length marks ≡ at + suc (length marks) = omega arith in e) (ranges_within marks (at + 1) None tt)),
+)
+
+-- the ranges of marks lie one after another between the first byte and the end
+pub ranges_cells : (marks : List Bool) (size : ℕ) → length marks ≡ size → AreCells 0 size (ranges_of marks)
+unfolding Begun first
+ranges_cells marks size e = subst (λ hi. AreCells 0 hi (ranges_of marks)) (let f : 0 + length marks ≡ length marks = omega arith in f ∙ e) (ranges_within marks 0 None tt)

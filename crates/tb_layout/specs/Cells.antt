@@ -1,13 +1,12 @@
 -- The bytes of a type that lie in a `Cell` or `UnsafeCell`.
-use Rattle.std.specs.Prelude.{ℕ, zero, suc, ◌<◌, ◌+◌, ◌-◌, Bool, true, false, List, [], ◌∷◌, ◌++◌, map, replicate, Option, Some, None}
+use Rattle.std.specs.Prelude.{ℕ, zero, suc, ◌<◌, ◌+◌, ◌-◌, Bool, true, false, List, [], ◌∷◌, ◌++◌, map, replicate, Option, Some, None, nat_eq, if◌then◌else◌}
 use Rattle.tb_perm.specs.declared.new_tag.CellRange.{CellRange}
 use Rattle.tb_types.specs.declared.shape.Ty.{Ty}
-use Rattle.tb_types.specs.declared.shape.TyShape.{TyShape}
-use Rattle.tb_types.specs.declared.shape.TyShape.TheVariants.{Tuple, Array, Struct, Cell, UnsafeCell}
 use Rattle.tb_types.specs.Table.{TypeTable}
+use Rattle.tb_types.specs.Trees.{TypeTree, TupleTree, ArrayTree, StructTree, CellTree, UnsafeCellTree}
 use Rattle.tb_types.specs.Folded.{Node, folded}
-use Rattle.tb_layout.specs.declared.extent.Row.{Row}
-use Rattle.tb_layout.specs.Extent.{rounded, nothing, laid, extent_in, extent_of}
+use Rattle.tb_types.specs.declared.extent.Row.{Row}
+use Rattle.tb_types.specs.Extent.{rounded, nothing, laid, extent_in, extent_of}
 
 -- a list so many times
 abbrev pub copies : ℕ → List Bool → List Bool
@@ -36,16 +35,16 @@ all_cells types [] = []
 all_cells types (part ∷ parts) = replicate (extent_of types part).size true
 
 -- for each byte whether it lies in a cell; a cell's padding does
-abbrev pub marks_in : TypeTable → TyShape → List Ty → List (List Bool) → List Bool
-marks_in types (Tuple those) parts below = marks_together types parts below
-marks_in types (Struct item) parts below = marks_together types parts below
-marks_in types (Array part n) parts below = copies n (first_marks below)
-marks_in types (Cell part) parts below = all_cells types parts
-marks_in types (UnsafeCell part) parts below = all_cells types parts
-marks_in types shape parts below = replicate (extent_in types shape []).size false
+abbrev pub marks_in : TypeTable → TypeTree → List Ty → List (List Bool) → List Bool
+marks_in types (TupleTree those) parts below = marks_together types parts below
+marks_in types (StructTree item) parts below = marks_together types parts below
+marks_in types (ArrayTree part n) parts below = copies n (first_marks below)
+marks_in types (CellTree part) parts below = all_cells types parts
+marks_in types (UnsafeCellTree part) parts below = all_cells types parts
+marks_in types tree parts below = replicate (extent_in tree []).size false
 
 abbrev pub marks_by : TypeTable → Node → List (List Bool) → List Bool
-marks_by types node below = marks_in types node.shape node.parts below
+marks_by types node below = marks_in types node.tree node.parts below
 
 abbrev pub marks_of : TypeTable → Ty → List Bool
 marks_of types ty = folded (marks_by types) types ty
@@ -61,6 +60,28 @@ ranges_from at (Some lo) (false ∷ marks) = record { lo = lo; hi = at } ∷ ran
 
 abbrev pub ranges_of : List Bool → List CellRange
 ranges_of marks = ranges_from 0 None marks
+
+-- the last range ends there
+abbrev pub ends_at : List CellRange → ℕ → Bool
+ends_at [] at = false
+ends_at (range ∷ []) at = nat_eq range.hi at
+ends_at (range ∷ next ∷ ranges) at = ends_at (next ∷ ranges) at
+
+-- the last range goes on to there
+abbrev pub lengthened : List CellRange → ℕ → List CellRange
+lengthened [] hi = []
+lengthened (range ∷ []) hi = record range { hi = hi } ∷ []
+lengthened (range ∷ next ∷ ranges) hi = range ∷ lengthened (next ∷ ranges) hi
+
+-- the ranges with one more behind them, which is joined to the last where it begins at its end
+abbrev pub with_range : List CellRange → ℕ → ℕ → List CellRange
+with_range ranges lo hi = if ends_at ranges lo then lengthened ranges hi else ranges ++ record { lo = lo; hi = hi } ∷ []
+
+-- the ranges with the marked bytes behind them, from a byte on
+abbrev pub with_marks : List CellRange → ℕ → List Bool → List CellRange
+with_marks ranges at [] = ranges
+with_marks ranges at (true ∷ marks) = with_marks (with_range ranges at (at + 1)) (at + 1) marks
+with_marks ranges at (false ∷ marks) = with_marks ranges (at + 1) marks
 
 -- whether a byte is marked
 abbrev pub is_marked : List Bool → ℕ → Bool

@@ -1,20 +1,13 @@
--- The layout of a type, and the limits within which it has one.
-use Rattle.std.specs.Prelude.{ℕ, ◌+◌, Bool, ◌&&◌, nat_le, List, [], ◌∷◌, map}
+-- The layout of a type.
+use Rattle.std.specs.Prelude.{ℕ, ◌+◌, List, [], ◌∷◌, map}
 use Rattle.tb_types.specs.declared.shape.Ty.{Ty}
 use Rattle.tb_types.specs.declared.shape.TyShape.{TyShape}
 use Rattle.tb_types.specs.declared.shape.TyShape.TheVariants.{Tuple, Struct}
 use Rattle.tb_types.specs.Table.{TypeTable}
 use Rattle.tb_types.specs.Folded.{Node, node_of}
-use Rattle.tb_layout.specs.declared.extent.Extent.{Extent}
+use Rattle.tb_types.specs.declared.extent.Extent.{Extent}
 use Rattle.tb_layout.specs.declared.answer.Layout.{Layout}
-use Rattle.tb_layout.specs.Extent.{rounded, extent_of}
-
--- at most 1,048,576 bytes, 4,194,304 parts and 1,024 levels
-abbrev pub is_within : Extent → Bool
-is_within extent = nat_le extent.size 1048576 && (nat_le extent.parts 4194304 && nat_le extent.levels 1024)
-
-abbrev pub has_layout : TypeTable → Ty → Bool
-has_layout types ty = is_within (extent_of types ty)
+use Rattle.tb_types.specs.Extent.{rounded, extent_of}
 
 -- where parts begin that are laid one behind another from an end on
 abbrev pub places : ℕ → List Extent → List ℕ

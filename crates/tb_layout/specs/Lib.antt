@@ -1,5 +1,4 @@
-pub mod Extent
-pub mod Capped
 pub mod Layout
 pub mod LaysOut
 pub mod Cells
+pub mod Leaves

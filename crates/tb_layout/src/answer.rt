@@ -17,7 +17,3 @@ pub enum LayoutError {
     /// There was no memory.
     Memory,
 }
-
-/// There was no memory.
-#[derive(Clone, Copy, Debug, PartialEq, Eq)]
-pub struct Memory;

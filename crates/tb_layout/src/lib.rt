@@ -1,13 +1,14 @@
-//! Layouts of types: sizes, alignments, the offsets of parts, and the bytes that lie in cells.
+//! Layouts of types: sizes, alignments, the offsets of parts, the leaves, and the bytes that lie in cells.
 #![tactic(auto)]
 
 mod answer;
-mod extent;
+mod leaf;
 mod marks;
-mod measure;
 mod offsets;
+mod walk;
 
-pub use answer::{Layout, LayoutError, Memory};
-pub use extent::Extent;
+pub use answer::{Layout, LayoutError};
+pub use leaf::{Leaf, LeafShape};
 pub use marks::cells;
 pub use offsets::layout;
+pub use walk::{leaves, retag_leaves};

@@ -4,7 +4,7 @@ use Rattle.std.specs.Char.{is_ascii_digit, is_ascii_alphabetic}
 use Rattle.std.specs.List.{list_all}
 use Rattle.std.specs.Str.{encode_utf8_all}
 use Rattle.std.proofs.lemmas.Bool.{cases_Bool}
-use Rattle.tb_perm.specs.declared.code.Code.TheVariants.{L3}
+use Rattle.tb_perm.specs.declared.code.Code.TheVariants.{BadLiteral}
 use Rattle.tb_lex.specs.declared.literal.Literal.TheVariants as literal
 use Rattle.tb_lex.specs.declared.literal.Stage.{Stage}
 use Rattle.tb_lex.specs.declared.literal.Stage.TheVariants.{Open, Full}
@@ -208,7 +208,7 @@ byte-again value inner after is =
     through-content literal.Byte Open inner (39 ∷ after) (Full value) (written-through literal.Byte value inner is)
     ∙ content-stop literal.Byte (Full value) 39 after (whole-stops literal.Byte (Full value) (value, refl)) in
     ap (λ (r : Stage × List ℕ). byte_of r.0 r.1) reads
-    ∙ ap (λ (b : Bool). cond b (token (kind.Byte value) after) (refuse L3 (39 ∷ after))) (lt-ltb value 256 (byte-small value inner is))
+    ∙ ap (λ (b : Bool). cond b (token (kind.Byte value) after) (refuse BadLiteral (39 ∷ after))) (lt-ltb value 256 (byte-small value inner is))
 
 text-again : (values inner after : List ℕ) → AreWritten values inner → text_at (inner ++ 34 ∷ after) ≡ token (kind.Text (record { source = encode_utf8_all inner })) after
 unfolding text_at

@@ -18,3 +18,4 @@ pub mod Places
 pub mod Uniqueness
 pub mod Steps
 pub mod Whole
+pub mod Decoding

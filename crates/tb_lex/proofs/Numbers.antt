@@ -4,7 +4,7 @@ use Rattle.std.specs.Char.{digit_value}
 use Rattle.std.specs.List.{list_all}
 use Rattle.std.proofs.lemmas.Bool.{cases_Bool}
 use Rattle.tb_perm.specs.declared.code.Code.{Code}
-use Rattle.tb_perm.specs.declared.code.Code.TheVariants.{L5, L6}
+use Rattle.tb_perm.specs.declared.code.Code.TheVariants.{BadNumber, UnknownSuffix}
 use Rattle.tb_lex.specs.declared.suffix.Suffix.{Suffix}
 use Rattle.tb_lex.specs.declared.token.Integer.{Integer}
 use Rattle.tb_lex.specs.Characters.{front, after_front}
@@ -108,17 +108,17 @@ pub integer-sound : (base : ℕ) (digits rest : List ℕ) → 1 ≤ base → is_
 integer-sound base digits rest h sound =
     let value : number_of base digits ≡ Some (digits_value base 0 digits) =
     number-sound base digits h ∙ ap (λ (b : Bool). cond b (Some (digits_value base 0 digits)) None) sound in
-    ap (λ (o : Option ℕ). elim o [ Some value ↦ suffixed value rest | None ↦ Err L5 ]) value
+    ap (λ (o : Option ℕ). elim o [ Some value ↦ suffixed value rest | None ↦ Err BadNumber ]) value
 
-pub integer-unsound : (base : ℕ) (digits rest : List ℕ) → 1 ≤ base → is_sound base digits ≡ false → integer_with base digits rest ≡ Err L5
+pub integer-unsound : (base : ℕ) (digits rest : List ℕ) → 1 ≤ base → is_sound base digits ≡ false → integer_with base digits rest ≡ Err BadNumber
 integer-unsound base digits rest h sound =
     let value : number_of base digits ≡ None =
     number-sound base digits h ∙ ap (λ (b : Bool). cond b (Some (digits_value base 0 digits)) None) sound in
-    ap (λ (o : Option ℕ). elim o [ Some value ↦ suffixed value rest | None ↦ Err L5 ]) value
+    ap (λ (o : Option ℕ). elim o [ Some value ↦ suffixed value rest | None ↦ Err BadNumber ]) value
 
 abbrev read_suffix : ℕ → Option Suffix → Result Integer Code
 read_suffix value (Some suffix) = Ok (record { value = value; suffix = Some suffix })
-read_suffix value None = Err L6
+read_suffix value None = Err UnknownSuffix
 
 suffixed-some : (value : ℕ) (word : List ℕ) (s : Suffix) → suffix_of word ≡ Some s → suffixed value word ≡ Ok (record { value = value; suffix = Some s })
 unfolding suffix_of
@@ -134,7 +134,7 @@ suffixed-again value (Some s) = suffixed-some value (suffix_text s) s (suffix-fo
 -- what stands behind digits: nothing or a suffix, which is read; or something else, which is refused
 pub data Suffixed (value : ℕ) (rest : List ℕ) : Type 0 where
   Has : (suffix : Option Suffix) → rest ≡ suffixed_text suffix → suffixed value rest ≡ Ok (record { value = value; suffix = suffix }) → Suffixed value rest
-  HasNone : rest ≢ [] → ((suffix : Suffix) → rest ≢ suffix_text suffix) → suffixed value rest ≡ Err L6 → Suffixed value rest
+  HasNone : rest ≢ [] → ((suffix : Suffix) → rest ≢ suffix_text suffix) → suffixed value rest ≡ Err UnknownSuffix → Suffixed value rest
 
 pub suffixed-cases : (value : ℕ) (rest : List ℕ) → Suffixed value rest
 suffixed-cases value [] = Has None refl refl

@@ -2,21 +2,23 @@
 use Rattle.std.proofs.Common.{◌≡◌, ◌≢◌, ◌⊎◌, inl, inr, ℕ, ◌+◌, ◌≤◌, true, false, ◌==◌, List, [], ◌∷◌, ◌++◌, length, length-append, Option, Some, None, Result, Ok, Err, refl, ap, sym, subst, ◌∙◌, arith, ne_eqb, append_assoc, append-nil}
 use Rattle.std.specs.Char.{is_ascii_digit}
 use Rattle.tb_perm.specs.declared.code.Code.{Code}
-use Rattle.tb_perm.specs.declared.code.Code.TheVariants.{L1, L2, L3, L4, L5, L6, P1, P2, S2, U1}
+use Rattle.tb_perm.specs.declared.code.Code.TheVariants.{UnknownCharacter, BadLiteral, UnfinishedComment, BadNumber, UnknownSuffix}
 use Rattle.tb_lex.specs.declared.literal.Literal.{Literal}
 use Rattle.tb_lex.specs.declared.literal.Literal.TheVariants as literal
 use Rattle.tb_lex.specs.declared.literal.Stage.TheVariants.{Open}
+use Rattle.tb_lex.specs.declared.punctuation.Punctuation.{Punctuation}
 use Rattle.tb_lex.specs.declared.punctuation.Punctuation.TheVariants as mark
 use Rattle.tb_lex.specs.declared.suffix.Suffix.{Suffix}
 use Rattle.tb_lex.specs.declared.token.TokenKind.{TokenKind}
 use Rattle.tb_lex.specs.Characters.{is_space, is_start, is_continue, tail, after_front}
 use Rattle.tb_lex.specs.Comments.{after_block}
-use Rattle.tb_lex.specs.Tables.{punctuation_at, suffix_text}
+use Rattle.tb_lex.specs.Tables.{punctuation_at, punctuation_text, suffix_text}
 use Rattle.tb_lex.specs.Numbers.{integer_of}
 use Rattle.tb_lex.specs.Stages.{content}
 use Rattle.tb_lex.specs.Literals.{opening}
 use Rattle.tb_lex.specs.Tokens.{Stands, IsPassed, IsBlock, IsDigitWord, digits_value, suffixed_text}
 use Rattle.tb_lex.specs.Faults.{IsFault, IsUnfinished}
+use Rattle.tb_lex.specs.Faults.IsFault.{Character, Unended, Comment, Number, Suffixed}
 use Rattle.tb_lex.specs.Scan.{Read, token, refuse, numbered, number_at, marked, mark_at, token_at, block_end, comment_at, gap_at}
 use Rattle.tb_lex.proofs.Cases.{tell}
 use Rattle.tb_lex.proofs.Classes.{start-98}
@@ -101,21 +103,21 @@ stands-place k piece rest is =
 differ : (c d : ℕ) → c ≢ d → (c == d) ≡ false
 differ c d h = ne_eqb c d h
 
-other-place : (c : ℕ) (rest : List ℕ) → IsFault L2 (c ∷ []) rest → place (c ∷ rest) ≡ Fault L2 rest
+other-place : (c : ℕ) (rest : List ℕ) → is_space c ≡ false → c ≢ 39 → c ≢ 34 → is_ascii_digit c ≡ false → is_start c ≡ false
+    → ((p : Punctuation) (after : List ℕ) → c ∷ rest ≢ punctuation_text p ++ after) → place (c ∷ rest) ≡ Fault UnknownCharacter rest
 unfolding token_at mark_at
-other-place c rest (d, same, space, single, double, digit, start, none) =
-    let e : c ≡ d = cc in
-    let slash : (c == 47) ≡ false = differ c 47 (λ is. none mark.Slash rest (ap (λ (n : ℕ). n ∷ rest) (sym e ∙ is))) in
+other-place c rest space single double digit start none =
+    let slash : (c == 47) ≡ false = differ c 47 (λ is. none mark.Slash rest (ap (λ (n : ℕ). n ∷ rest) is)) in
     let letter : (c == 98) ≡ false = differ c 98 (λ is.
-    let h : true ≡ false = sym start-98 ∙ ap is_start (sym is ∙ e) ∙ start in cc) in
+    let h : true ≡ false = sym start-98 ∙ ap is_start (sym is) ∙ start in cc) in
     let unmarked : punctuation_at (c ∷ rest) ≡ None = elim (tell (punctuation_at (c ∷ rest))) [
       | inl is ↦ is
-      | inr found ↦ absurd (none found.0.0 found.0.1 (ap (λ (n : ℕ). n ∷ rest) (sym e) ∙ punctuation-is (c ∷ rest) found.0.0 found.0.1 found.1))
+      | inr found ↦ absurd (none found.0.0 found.0.1 (punctuation-is (c ∷ rest) found.0.0 found.0.1 found.1))
     ] in
-    let read : token_at (c ∷ rest) ≡ refuse L2 rest =
-    rw (letter, differ c 39 (λ is. single (sym e ∙ is)), differ c 34 (λ is. double (sym e ∙ is)), ap is_ascii_digit e ∙ digit, ap is_start e ∙ start)
+    let read : token_at (c ∷ rest) ≡ refuse UnknownCharacter rest =
+    rw (letter, differ c 39 single, differ c 34 double, digit, start)
     (ap (marked (c ∷ rest)) unmarked) in
-    read-place (c ∷ rest) (refuse L2 rest) (plain-no_gap c rest (ap is_space e ∙ space) slash) read
+    read-place (c ∷ rest) (refuse UnknownCharacter rest) (plain-no_gap c rest space slash) read
 
 open-no_gap : (l : Literal) (text : List ℕ) → gap_at (opening l ++ text) ≡ no_gap
 open-no_gap literal.Character text = plain-no_gap 39 text refl refl
@@ -129,7 +131,7 @@ told : (read : Read) → Told read
 told (Ok found) = inl (found.0, found.1, refl)
 told (Err fault) = inr (fault.0, fault.1, refl)
 
-unfinished-place : (l : Literal) (piece rest : List ℕ) → IsUnfinished l piece rest → place (piece ++ rest) ≡ Fault L3 rest
+unfinished-place : (l : Literal) (piece rest : List ℕ) → IsUnfinished l piece rest → place (piece ++ rest) ≡ Fault BadLiteral rest
 unfinished-place l piece rest is =
     let text : List ℕ = is.inner ++ rest in
     let whole : piece ++ rest ≡ opening l ++ text = ap (λ (t : List ℕ). t ++ rest) is.opened ∙ append_assoc (opening l) is.inner rest in
@@ -141,27 +143,25 @@ unfinished-place l piece rest is =
       | inr fault ↦
           let code : Code = fault.0 in
           let s = literal-stuck l text code fault.1 fault.2 in
-          let e : token_at (opening l ++ text) ≡ refuse L3 fault.1 = fault.2 ∙ ap (λ (c : Code). refuse c fault.1) s.0 in
+          let e : token_at (opening l ++ text) ≡ refuse BadLiteral fault.1 = fault.2 ∙ ap (λ (c : Code). refuse c fault.1) s.0 in
           let m = meant l text in
           let parts : text ≡ m.0 ++ fault.1 = m.1 ∙ ap (λ (t : List ℕ). m.0 ++ t) s.1 in
           let read : List ℕ = opening l ++ m.0 in
           let here : piece ++ rest ≡ read ++ fault.1 = whole ∙ ap (λ (t : List ℕ). opening l ++ t) parts ∙ sym (append_assoc (opening l) m.0 fault.1) in
           let first : length read ≤ length piece = is.longest read fault.1 (sym here) (is_front l (content l Open text).0 m.0 m.2) in
-          let second : length piece ≤ length read = is_longest l text m.0 fault.1 (no_whole l text L3 fault.1 e) parts s.1 piece rest here is.front in
+          let second : length piece ≤ length read = is_longest l text m.0 fault.1 (no_whole l text BadLiteral fault.1 e) parts s.1 piece rest here is.front in
           let front : piece ≡ read = same_front piece read rest fault.1 here (omega arith) in
           let ends : fault.1 ≡ rest = cancel read fault.1 rest (sym here ∙ ap (λ (t : List ℕ). t ++ rest) front) in
-          ap place whole ∙ read-place (opening l ++ text) (refuse L3 fault.1) gap e ∙ ap (λ (t : List ℕ). Fault L3 t) ends
+          ap place whole ∙ read-place (opening l ++ text) (refuse BadLiteral fault.1) gap e ∙ ap (λ (t : List ℕ). Fault BadLiteral t) ends
     ]
 
-block-place : (inner rest : List ℕ) → rest ≡ [] → ((block after : List ℕ) → inner ≡ block ++ after → IsBlock block → ⊥) → place (47 ∷ 42 ∷ (inner ++ rest)) ≡ Fault L4 rest
+block-place : (inner : List ℕ) → ((block after : List ℕ) → inner ≡ block ++ after → IsBlock block → ⊥) → place (47 ∷ 42 ∷ inner) ≡ Fault UnfinishedComment []
 unfolding gap_at comment_at place
-block-place inner rest end none = elim (tell (after_block 0 (inner ++ rest))) [
+block-place inner none = elim (tell (after_block 0 inner)) [
   | inr found ↦
-      let block = block-takes 0 (inner ++ rest) found.0 found.1 in
-      let parts : inner ≡ block.0 ++ found.0 = sym (append-nil inner) ∙ ap (λ (t : List ℕ). inner ++ t) (sym end) ∙ block.1 in
-      absurd (none block.0 found.0 parts block.2)
-  | inl unended ↦
-      ap (λ (o : Option (List ℕ)). of_gap (token_at (47 ∷ 42 ∷ (inner ++ rest))) (block_end o)) unended ∙ ap (λ (t : List ℕ). Fault L4 t) (sym end)
+      let block = block-takes 0 inner found.0 found.1 in
+      absurd (none block.0 found.0 block.1 block.2)
+  | inl unended ↦ ap (λ (o : Option (List ℕ)). of_gap (token_at (47 ∷ 42 ∷ inner)) (block_end o)) unended
 ]
 
 number-place : (word rest : List ℕ) (code : Code) → IsDigitWord word rest → integer_of word ≡ Err code → place (word ++ rest) ≡ Fault code rest
@@ -181,41 +181,28 @@ no_suffix None tail e some other = some e
 no_suffix (Some s) tail e some other = other s e
 
 pub fault-place : (code : Code) (piece rest : List ℕ) → IsFault code piece rest → place (piece ++ rest) ≡ Fault code rest
-fault-place L1 piece rest is = absurd is
-fault-place P1 piece rest is = absurd is
-fault-place P2 piece rest is = absurd is
-fault-place S2 piece rest is = absurd is
-fault-place U1 piece rest is = absurd is
-fault-place L2 piece rest is =
-    ap (λ (t : List ℕ). place (t ++ rest)) is.1 ∙ other-place is.0 rest (subst (λ t. IsFault L2 t rest) is.1 is)
-fault-place L3 piece rest is = unfinished-place is.0 piece rest is.1
-fault-place L4 piece rest (inner, parts, end, none) = ap (λ (t : List ℕ). place (t ++ rest)) parts ∙ block-place inner rest end none
-fault-place L5 piece rest (base, digits, tail, whole, is, unsound) =
+fault-place _ _ _ (Character c rest space single double digit start none) = other-place c rest space single double digit start none
+fault-place _ _ _ (Unended l piece rest is) = unfinished-place l piece rest is
+fault-place _ _ _ (Comment inner none) = ap (λ (t : List ℕ). place (47 ∷ 42 ∷ t)) (append-nil inner) ∙ block-place inner none
+fault-place _ _ _ (Number piece rest base digits tail whole is unsound) =
     let read = number-again piece base digits tail is in
-    number-place piece rest L5 whole (read.0 ∙ integer-unsound base digits tail read.1 unsound)
-fault-place L6 piece rest (base, digits, tail, whole, is, sound, some, other) =
+    number-place piece rest BadNumber whole (read.0 ∙ integer-unsound base digits tail read.1 unsound)
+fault-place _ _ _ (Suffixed piece rest base digits tail whole is sound some other) =
     let read = number-again piece base digits tail is in
     let reads = read.0 ∙ integer-sound base digits tail read.1 sound in
     elim (suffixed-cases (digits_value base 0 digits) tail) [
-      | HasNone nothing none e ↦ number-place piece rest L6 whole (reads ∙ e)
+      | HasNone nothing none e ↦ number-place piece rest UnknownSuffix whole (reads ∙ e)
       | Has suffix e reads' ↦ absurd (no_suffix suffix tail e some other)
     ]
 
 -- a fault has a piece
 pub fault-some : (code : Code) (rest : List ℕ) → IsFault code [] rest → ⊥
-fault-some L1 rest is = is
-fault-some P1 rest is = is
-fault-some P2 rest is = is
-fault-some S2 rest is = is
-fault-some U1 rest is = is
-fault-some L2 rest is = let h = is.1 in cc
-fault-some L3 rest (literal.Character, is) = let h = is.opened in cc
-fault-some L3 rest (literal.Byte, is) = let h = is.opened in cc
-fault-some L3 rest (literal.Text, is) = let h = is.opened in cc
-fault-some L4 rest is = let h = is.1 in cc
-fault-some L5 rest is = let h = is.3.begins in cc
-fault-some L6 rest is = let h = is.3.begins in cc
+fault-some _ _ (Unended literal.Character _ rest is) = let h = is.opened in cc
+fault-some _ _ (Unended literal.Byte _ rest is) = let h = is.opened in cc
+fault-some _ _ (Unended literal.Text _ rest is) = let h = is.opened in cc
+fault-some _ _ (Number _ rest base digits tail whole is unsound) = let h = whole.begins in cc
+fault-some _ _ (Suffixed _ rest base digits tail whole is sound some other) = let h = whole.begins in cc
 
-pub nothing-place : place [] ≡ Fault L2 []
+pub nothing-place : place [] ≡ Fault UnknownCharacter []
 unfolding place gap_at token_at
 nothing-place = refl

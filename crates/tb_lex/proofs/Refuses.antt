@@ -4,7 +4,7 @@ use Rattle.std.specs.Char.{is_ascii_digit}
 use Rattle.std.specs.Str.{encode_utf8_all}
 use Rattle.std.proofs.lemmas.Bool.{cases_Bool}
 use Rattle.tb_perm.specs.declared.code.Code.{Code}
-use Rattle.tb_perm.specs.declared.code.Code.TheVariants.{L2, L3, L4, L5, L6}
+use Rattle.tb_perm.specs.declared.code.Code.TheVariants.{UnknownCharacter, BadLiteral, UnfinishedComment, BadNumber, UnknownSuffix}
 use Rattle.tb_lex.specs.declared.literal.Literal.{Literal}
 use Rattle.tb_lex.specs.declared.literal.Literal.TheVariants as literal
 use Rattle.tb_lex.specs.declared.literal.Stage.{Stage}
@@ -19,6 +19,7 @@ use Rattle.tb_lex.specs.Literals.{IsContent, opening, closing, quoted}
 use Rattle.tb_lex.specs.Tokens.{IsToken, IsPassed}
 use Rattle.tb_lex.specs.Tokens.IsPassed.{Blank, Line, Block}
 use Rattle.tb_lex.specs.Faults.{IsFault}
+use Rattle.tb_lex.specs.Faults.IsFault.{Character as OtherCharacter, Unended, Comment, Number as BadDigits, Suffixed as BadSuffix}
 use Rattle.tb_lex.specs.Scan.{Read, word_kind, name, token, refuse, word_at, is_lifetime, lifetime_at, numbered, number_at, character_of, byte_of, text_of, character_at, byte_at, text_at, quoted_at, marked, mark_at, token_at, block_end, comment_at, gap_at}
 use Rattle.tb_lex.proofs.Cases.{both, chosen, some_is, tell}
 use Rattle.tb_lex.proofs.Fronts.{front-parts, front-all, front-next, front-again}
@@ -71,34 +72,31 @@ no_whole l text code rest e inner after parts is =
     no_token (opening l ++ text) code rest e t.0 (quoted l inner) after regroup t.1
 
 -- what was read of a literal that is refused is its longest front
-unfinished : (l : Literal) (text rest : List ℕ) → token_at (opening l ++ text) ≡ refuse L3 rest → (content l Open text).1 ≡ rest → Faulty L3 (opening l ++ text) rest
+unfinished : (l : Literal) (text rest : List ℕ) → token_at (opening l ++ text) ≡ refuse BadLiteral rest → (content l Open text).1 ≡ rest → Faulty BadLiteral (opening l ++ text) rest
 unfinished l text rest e at =
     let m = meant l text in
     let parts : text ≡ m.0 ++ rest = m.1 ∙ ap (λ (t : List ℕ). m.0 ++ t) at in
     let whole : opening l ++ text ≡ (opening l ++ m.0) ++ rest = ap (λ (t : List ℕ). opening l ++ t) parts ∙ sym (append_assoc (opening l) m.0 rest) in (
       opening l ++ m.0,
       whole,
-      (
-        l,
-        record {
-          inner = m.0;
-          opened = refl;
-          front = is_front l (content l Open text).0 m.0 m.2;
-          longest = is_longest l text m.0 rest (no_whole l text L3 rest e) parts at;
-          no_token = λ k piece after same is. no_token (opening l ++ text) L3 rest e k piece after (same ∙ sym whole) is;
-        },
-      ),
+      Unended l (opening l ++ m.0) rest (record {
+        inner = m.0;
+        opened = refl;
+        front = is_front l (content l Open text).0 m.0 m.2;
+        longest = is_longest l text m.0 rest (no_whole l text BadLiteral rest e) parts at;
+        no_token = λ k piece after same is. no_token (opening l ++ text) BadLiteral rest e k piece after (same ∙ sym whole) is;
+      }),
     )
 
 -- a literal is refused with this code alone, and with what was not read
 abbrev pub Stuck : Read → List ℕ → Type 0
-Stuck read rest = (code : Code) (after : List ℕ) → read ≡ refuse code after → (code ≡ L3) × (rest ≡ after)
+Stuck read rest = (code : Code) (after : List ℕ) → read ≡ refuse code after → (code ≡ BadLiteral) × (rest ≡ after)
 
-stuck : (rest : List ℕ) → Stuck (refuse L3 rest) rest
+stuck : (rest : List ℕ) → Stuck (refuse BadLiteral rest) rest
 stuck rest code after e =
-    let same = refuse-is L3 code rest after e in (sym same.0, same.1)
+    let same = refuse-is BadLiteral code rest after e in (sym same.0, same.1)
 
-stuck_or : (b : Bool) (k : TokenKind) (x rest : List ℕ) → Stuck (cond b (token k x) (refuse L3 rest)) rest
+stuck_or : (b : Bool) (k : TokenKind) (x rest : List ℕ) → Stuck (cond b (token k x) (refuse BadLiteral rest)) rest
 stuck_or true k x rest code after e = let h : token k x ≡ refuse code after = e in absurd cc
 stuck_or false k x rest code after e = stuck rest code after e
 
@@ -171,13 +169,13 @@ number-refuses c text code rest digit e =
       | Sound base digits integer is sound value reads ↦
           let same : token (kind.Integer integer) after ≡ refuse code rest = sym (ap (λ r. numbered r after) reads) ∙ e in absurd cc
       | Unsound base digits tail is unsound reads ↦
-          let same : refuse L5 after ≡ refuse code rest = sym (ap (λ r. numbered r after) reads) ∙ e in
-          faulty-is L5 code after rest (c ∷ text) same
-          (word, front-parts is_continue (c ∷ text), (base, digits, tail, digit-word c text digit, is, unsound))
+          let same : refuse BadNumber after ≡ refuse code rest = sym (ap (λ r. numbered r after) reads) ∙ e in
+          faulty-is BadNumber code after rest (c ∷ text) same
+          (word, front-parts is_continue (c ∷ text), BadDigits word after base digits tail (digit-word c text digit) is unsound)
       | Wrong base digits tail is sound some other reads ↦
-          let same : refuse L6 after ≡ refuse code rest = sym (ap (λ r. numbered r after) reads) ∙ e in
-          faulty-is L6 code after rest (c ∷ text) same
-          (word, front-parts is_continue (c ∷ text), (base, digits, tail, digit-word c text digit, is, sound, some, other))
+          let same : refuse UnknownSuffix after ≡ refuse code rest = sym (ap (λ r. numbered r after) reads) ∙ e in
+          faulty-is UnknownSuffix code after rest (c ∷ text) same
+          (word, front-parts is_continue (c ∷ text), BadSuffix word after base digits tail (digit-word c text digit) is sound some other)
     ]
 
 -- Other characters.
@@ -191,23 +189,14 @@ unfolding mark_at
 mark-refuses c text code rest space single double digit start e = elim (tell (punctuation_at (c ∷ text))) [
   | inr found ↦ let h : token (kind.Punctuation found.0.0) found.0.1 ≡ refuse code rest = sym (ap (marked (c ∷ text)) found.1) ∙ e in absurd cc
   | inl none ↦
-      let same : refuse L2 text ≡ refuse code rest = sym (ap (marked (c ∷ text)) none) ∙ e in
-      faulty-is L2 code text rest (c ∷ text) same (
+      let same : refuse UnknownCharacter text ≡ refuse code rest = sym (ap (marked (c ∷ text)) none) ∙ e in
+      faulty-is UnknownCharacter code text rest (c ∷ text) same (
         c ∷ [],
         refl,
-        (
-          c,
-          refl,
-          space,
-          not_same c 39 single,
-          not_same c 34 double,
-          digit,
-          start,
-          λ p after parts.
-              let f = finds_punctuation p after in
-              let h : None ≡ Some (f.found, f.rest) = sym none ∙ ap punctuation_at parts ∙ f.stands in
-              cc,
-        ),
+        OtherCharacter c text space (not_same c 39 single) (not_same c 34 double) digit start (λ p after parts.
+            let f = finds_punctuation p after in
+            let h : None ≡ Some (f.found, f.rest) = sym none ∙ ap punctuation_at parts ∙ f.stands in
+            cc),
       )
 ]
 
@@ -270,19 +259,14 @@ comment-refuses (c ∷ text) code rest e = elim (chosen (c == 47) (pass (after_f
     | inl j ↦ elim (tell (after_block 0 text)) [
       | inr found ↦ let h : pass found.0 ≡ refuse_gap code rest = sym (ap block_end found.1) ∙ j.1 in absurd cc
       | inl none ↦
-          let h = refuse_gap-is L4 code [] rest (sym (ap block_end none) ∙ j.1) in
+          let h = refuse_gap-is UnfinishedComment code [] rest (sym (ap block_end none) ∙ j.1) in
           let star : 42 ≡ c = sym (eqb-true c 42 j.0) in
-          let fault : Faulty L4 (47 ∷ 42 ∷ text) [] = (
+          let fault : Faulty UnfinishedComment (47 ∷ 42 ∷ text) [] = (
             47 ∷ 42 ∷ text,
             ap (λ (t : List ℕ). 47 ∷ 42 ∷ t) (sym (append-nil text)),
-            (
-              text,
-              refl,
-              refl,
-              λ block after parts is.
-                  let h : Some after ≡ None = sym (block-again block is 0 after) ∙ ap (after_block 0) (sym parts) ∙ none in
-                  cc,
-            ),
+            Comment text (λ block after parts is.
+                let h : Some after ≡ None = sym (block-again block is 0 after) ∙ ap (after_block 0) (sym parts) ∙ none in
+                cc),
           ) in
           subst (λ n. Faulty code (47 ∷ n ∷ text) rest) star (subst (λ r. Faulty code (47 ∷ 42 ∷ text) r) h.1 (subst (λ d. Faulty d (47 ∷ 42 ∷ text) []) h.0 fault))
     ]
@@ -324,7 +308,7 @@ comment-passes (c ∷ text) rest e = elim (chosen (c == 47) (pass (after_front i
   | inr k ↦ elim (chosen (c == 42) (block_end (after_block 0 text)) no_gap (pass rest) k.1) [
     | inr j ↦ absurd cc
     | inl j ↦ elim (tell (after_block 0 text)) [
-      | inl none ↦ let h : refuse_gap L4 [] ≡ pass rest = sym (ap block_end none) ∙ j.1 in absurd cc
+      | inl none ↦ let h : refuse_gap UnfinishedComment [] ≡ pass rest = sym (ap block_end none) ∙ j.1 in absurd cc
       | inr found ↦
           let same = pass-is found.0 rest (sym (ap block_end found.1) ∙ j.1) in
           let star : 42 ≡ c = sym (eqb-true c 42 j.0) in

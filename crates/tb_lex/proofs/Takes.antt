@@ -5,7 +5,7 @@ use Rattle.std.specs.Str.{encode_utf8_all}
 use Rattle.std.proofs.lemmas.Bool.{cases_Bool}
 use Rattle.std.proofs.lemmas.List.{take_at}
 use Rattle.tb_perm.specs.declared.code.Code.{Code}
-use Rattle.tb_perm.specs.declared.code.Code.TheVariants.{L2, L3, L5, L6}
+use Rattle.tb_perm.specs.declared.code.Code.TheVariants.{UnknownCharacter, BadLiteral, BadNumber, UnknownSuffix}
 use Rattle.tb_lex.specs.declared.literal.Literal.TheVariants as literal
 use Rattle.tb_lex.specs.declared.literal.Stage.{Stage}
 use Rattle.tb_lex.specs.declared.literal.Stage.TheVariants.{Open, Escape, Hex, Digit, Unicode, Digits, Full}
@@ -59,7 +59,7 @@ behind_quote quote inner text rest parts e =
 character_of-takes : (stage : Stage) (text inner after : List ℕ) (k : TokenKind) (rest : List ℕ) → text ≡ inner ++ after → Means literal.Character stage inner
     → character_of stage after ≡ token k rest → Found k (39 ∷ text) rest
 character_of-takes (Full c) text inner after k rest parts m e =
-    elim (chosen (begins 39 after) (token (kind.Character c) (tail after)) (refuse L3 after) (token k rest) e) [
+    elim (chosen (begins 39 after) (token (kind.Character c) (tail after)) (refuse BadLiteral after) (token k rest) e) [
       | inl j ↦
           let whole : 39 ∷ text ≡ (39 ∷ (inner ++ 39 ∷ [])) ++ tail after = ap (λ (t : List ℕ). 39 ∷ t) (behind_quote 39 inner text after parts j.0) in
           found-is (kind.Character c) k (tail after) rest (39 ∷ text) j.1 (39 ∷ (inner ++ 39 ∷ []), whole, (inner, refl, m))
@@ -82,7 +82,7 @@ character-takes text k rest e =
 byte_of-takes : (stage : Stage) (text inner after : List ℕ) (k : TokenKind) (rest : List ℕ) → text ≡ inner ++ after → Means literal.Byte stage inner
     → byte_of stage after ≡ token k rest → Found k (98 ∷ 39 ∷ text) rest
 byte_of-takes (Full c) text inner after k rest parts m e =
-    elim (chosen (begins 39 after && ltb c 256) (token (kind.Byte c) (tail after)) (refuse L3 after) (token k rest) e) [
+    elim (chosen (begins 39 after && ltb c 256) (token (kind.Byte c) (tail after)) (refuse BadLiteral after) (token k rest) e) [
       | inl j ↦
           let quote = both (begins 39 after) (ltb c 256) j.0 in
           let whole : 98 ∷ 39 ∷ text ≡ (98 ∷ 39 ∷ (inner ++ 39 ∷ [])) ++ tail after =
@@ -115,7 +115,7 @@ text_of-takes : (stage : Stage) (text inner after : List ℕ) (k : TokenKind) (r
     → text_of text stage after ≡ token k rest → Found k (34 ∷ text) rest
 text_of-takes Open text inner after k rest parts m e =
     let source : List ℕ = encode_utf8_all (take (length text - length after) text) in
-    elim (chosen (begins 34 after) (token (kind.Text (record { source = source })) (tail after)) (refuse L3 after) (token k rest) e) [
+    elim (chosen (begins 34 after) (token (kind.Text (record { source = source })) (tail after)) (refuse BadLiteral after) (token k rest) e) [
       | inl j ↦
           let whole : 34 ∷ text ≡ (34 ∷ (inner ++ 34 ∷ [])) ++ tail after = ap (λ (t : List ℕ). 34 ∷ t) (behind_quote 34 inner text after parts j.0) in
           found-is (kind.Text (record { source = source })) k (tail after) rest (34 ∷ text) j.1
@@ -181,9 +181,9 @@ digit-word c text e = record {
 pub data Numbered (word : List ℕ) : Type 0 where
   Sound : (base : ℕ) (digits : List ℕ) (integer : Integer) → IsNumber word base digits (suffixed_text integer.suffix) → is_sound base digits ≡ true
       → integer.value ≡ digits_value base 0 digits → integer_of word ≡ Ok integer → Numbered word
-  Unsound : (base : ℕ) (digits tail : List ℕ) → IsNumber word base digits tail → is_sound base digits ≡ false → integer_of word ≡ Err L5 → Numbered word
+  Unsound : (base : ℕ) (digits tail : List ℕ) → IsNumber word base digits tail → is_sound base digits ≡ false → integer_of word ≡ Err BadNumber → Numbered word
   Wrong : (base : ℕ) (digits tail : List ℕ) → IsNumber word base digits tail → is_sound base digits ≡ true → tail ≢ [] → ((suffix : Suffix) → tail ≢ suffix_text suffix)
-      → integer_of word ≡ Err L6 → Numbered word
+      → integer_of word ≡ Err UnknownSuffix → Numbered word
 
 pub numbered-cases : (word : List ℕ) → Numbered word
 numbered-cases word =
@@ -215,9 +215,9 @@ number-takes c text k rest digit e =
           found-is (kind.Integer integer) k after rest (c ∷ text) same
           (word, front-parts is_continue (c ∷ text), (base, digits, digit-word c text digit, is, sound, value))
       | Unsound base digits tail is unsound reads ↦
-          let same : refuse L5 after ≡ token k rest = sym (ap (λ r. numbered r after) reads) ∙ e in absurd cc
+          let same : refuse BadNumber after ≡ token k rest = sym (ap (λ r. numbered r after) reads) ∙ e in absurd cc
       | Wrong base digits tail is sound some other reads ↦
-          let same : refuse L6 after ≡ token k rest = sym (ap (λ r. numbered r after) reads) ∙ e in absurd cc
+          let same : refuse UnknownSuffix after ≡ token k rest = sym (ap (λ r. numbered r after) reads) ∙ e in absurd cc
     ]
 
 -- no comment begins
@@ -227,7 +227,7 @@ NoComment text = (begins_pair 47 47 text ≡ false) × (begins_pair 47 42 text �
 pub mark-takes : (text : List ℕ) (k : TokenKind) (rest : List ℕ) → NoComment text → mark_at text ≡ token k rest → Found k text rest
 unfolding mark_at
 mark-takes text k rest free e = elim (tell (punctuation_at text)) [
-  | inl none ↦ let same : refuse L2 (tail text) ≡ token k rest = sym (ap (marked text) none) ∙ e in absurd cc
+  | inl none ↦ let same : refuse UnknownCharacter (tail text) ≡ token k rest = sym (ap (marked text) none) ∙ e in absurd cc
   | inr found ↦
       let same : token (kind.Punctuation found.0.0) found.0.1 ≡ token k rest = sym (ap (marked text) found.1) ∙ e in
       let parts : text ≡ punctuation_text found.0.0 ++ found.0.1 = punctuation-is text found.0.0 found.0.1 found.1 in

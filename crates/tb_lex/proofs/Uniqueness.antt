@@ -6,7 +6,7 @@ use Rattle.std.specs.Str.{IsValidUpTo}
 use Rattle.std.proofs.lemmas.List.{take_at}
 use Rattle.std.proofs.lemmas.List.Sums.{sum_by-cons}
 use Rattle.tb_perm.specs.declared.code.Code.{Code}
-use Rattle.tb_perm.specs.declared.code.Code.TheVariants.{L2}
+use Rattle.tb_perm.specs.declared.code.Code.TheVariants.{UnknownCharacter}
 use Rattle.tb_perm.specs.declared.span.Span.{Span}
 use Rattle.tb_lex.specs.declared.token.Token.{Token as Item}
 use Rattle.tb_lex.specs.declared.token.TokenKind.{TokenKind}
@@ -54,7 +54,7 @@ begins-stops : (size : ℕ) (text : List ℕ) (t : Item) (rest : List ℕ) → B
 begins-stops size text t rest b after e = let h : Token t.kind rest ≡ Gap after = sym (begins-place size text t rest b) ∙ e in cc
 
 pub end-final : Final []
-end-final = record { code = L2; rest = []; is = nothing-place }
+end-final = record { code = UnknownCharacter; rest = []; is = nothing-place }
 
 pub fault-final : (code : Code) (text piece rest : List ℕ) → text ≡ piece ++ rest → IsFault code piece rest → Final text
 fault-final code text piece rest parts is = record { code = code; rest = rest; is = ap place parts ∙ fault-place code piece rest is }

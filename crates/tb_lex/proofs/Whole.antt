@@ -6,7 +6,7 @@ use Rattle.std.specs.Str.{chars, IsUtf8, encode_utf8_all, IsValidUpTo}
 use Rattle.std.proofs.lemmas.Str.{chars_from_encodes, encodes-chars, scalars-chars, length-encode}
 use Rattle.std.proofs.lemmas.List.Sums.{sum_by-cons}
 use Rattle.tb_perm.specs.declared.code.Code.{Code}
-use Rattle.tb_perm.specs.declared.code.Code.TheVariants.{L1}
+use Rattle.tb_perm.specs.declared.code.Code.TheVariants.{NotUtf8}
 use Rattle.tb_perm.specs.declared.span.Span.{Span}
 use Rattle.tb_lex.specs.declared.error.LexError.{LexError}
 use Rattle.tb_lex.specs.declared.error.LexError.TheVariants as error
@@ -63,8 +63,8 @@ only_cause bytes (error.Refused code span) is =
     (is, λ other place wrong. one_fault bytes code other span place is wrong, λ tokens lexed. not_both bytes tokens code span lexed is)
 only_cause bytes error.Memory is = tt
 
-pub no_text-cause : (bytes : List ℕ) (lo : ℕ) → IsValidUpTo bytes lo → IsCause bytes (error.Refused L1 (byte_span lo))
-no_text-cause bytes lo valid = only_cause bytes (error.Refused L1 (byte_span lo)) (NoText lo valid)
+pub no_text-cause : (bytes : List ℕ) (lo : ℕ) → IsValidUpTo bytes lo → IsCause bytes (error.Refused NotUtf8 (byte_span lo))
+no_text-cause bytes lo valid = only_cause bytes (error.Refused NotUtf8 (byte_span lo)) (NoText lo valid)
 
 pub other-list : (bytes : List ℕ) (tokens other : List Token) → IsLexed bytes tokens → IsLexed bytes other → other ≡ tokens
 other-list bytes tokens other is more = one_list bytes other tokens more is

@@ -9,3 +9,4 @@ pub mod Tokens
 pub mod Faults
 pub mod Texts
 pub mod Growth
+pub mod Decoded

@@ -2,7 +2,7 @@
 use Rattle.std.specs.Prelude.{ℕ, ◌+◌, ◌*◌, ◌^◌, ◌&&◌, ◌==◌, nat_lt, if◌then◌else◌, List, [], ◌∷◌, Option, None, Some, Result, Ok, Err}
 use Rattle.std.specs.Char.{digit_value}
 use Rattle.tb_perm.specs.declared.code.Code.{Code}
-use Rattle.tb_perm.specs.declared.code.Code.TheVariants.{L5, L6}
+use Rattle.tb_perm.specs.declared.code.Code.TheVariants.{BadNumber, UnknownSuffix}
 use Rattle.tb_lex.specs.declared.token.Integer.{Integer}
 use Rattle.tb_lex.specs.Characters.{front, after_front}
 use Rattle.tb_lex.specs.Tables.{suffix_of}
@@ -32,14 +32,14 @@ abbrev pub suffixed : ℕ → List ℕ → Result Integer Code
 suffixed value [] = Ok (record { value = value; suffix = None })
 suffixed value (c ∷ rest) = elim (suffix_of (c ∷ rest)) [
   | Some suffix ↦ Ok (record { value = value; suffix = Some suffix })
-  | None ↦ Err L6
+  | None ↦ Err UnknownSuffix
 ]
 
 -- the integer of these digits, with what follows them
 abbrev pub integer_with : ℕ → List ℕ → List ℕ → Result Integer Code
 integer_with base digits rest = elim (number_of base digits) [
   | Some value ↦ suffixed value rest
-  | None ↦ Err L5
+  | None ↦ Err BadNumber
 ]
 
 -- the integer that a word is, or its fault

@@ -4,7 +4,7 @@ use Rattle.std.specs.Prelude.{◌≡◌, ℕ, ◌-◌, Bool, false, ◌&&◌, no
 use Rattle.std.specs.Char.{is_ascii_digit}
 use Rattle.std.specs.Str.{bytes_eq, encode_utf8_all}
 use Rattle.tb_perm.specs.declared.code.Code.{Code}
-use Rattle.tb_perm.specs.declared.code.Code.TheVariants.{L2, L3, L4}
+use Rattle.tb_perm.specs.declared.code.Code.TheVariants.{UnknownCharacter, BadLiteral, UnfinishedComment}
 use Rattle.tb_lex.specs.declared.error.Fault.{Fault}
 use Rattle.tb_lex.specs.declared.error.Fault.TheVariants as fault
 use Rattle.tb_lex.specs.declared.punctuation.Punctuation.{Punctuation}
@@ -76,37 +76,37 @@ number_at text = numbered (integer_of (front is_continue text)) (after_front is_
 
 -- the character whose literal was read up to this stage
 abbrev pub character_of : Stage → List ℕ → Read
-character_of (Full c) rest = if begins 39 rest then token (kind.Character c) (tail rest) else refuse L3 rest
-character_of Open rest = refuse L3 rest
-character_of Escape rest = refuse L3 rest
-character_of Hex rest = refuse L3 rest
-character_of (Digit high) rest = refuse L3 rest
-character_of Unicode rest = refuse L3 rest
-character_of (Digits count value) rest = refuse L3 rest
+character_of (Full c) rest = if begins 39 rest then token (kind.Character c) (tail rest) else refuse BadLiteral rest
+character_of Open rest = refuse BadLiteral rest
+character_of Escape rest = refuse BadLiteral rest
+character_of Hex rest = refuse BadLiteral rest
+character_of (Digit high) rest = refuse BadLiteral rest
+character_of Unicode rest = refuse BadLiteral rest
+character_of (Digits count value) rest = refuse BadLiteral rest
 
 -- the byte whose literal was read up to this stage
 abbrev pub byte_of : Stage → List ℕ → Read
 byte_of (Full c) rest =
-    if begins 39 rest && nat_lt c 256 then token (kind.Byte c) (tail rest) else refuse L3 rest
-byte_of Open rest = refuse L3 rest
-byte_of Escape rest = refuse L3 rest
-byte_of Hex rest = refuse L3 rest
-byte_of (Digit high) rest = refuse L3 rest
-byte_of Unicode rest = refuse L3 rest
-byte_of (Digits count value) rest = refuse L3 rest
+    if begins 39 rest && nat_lt c 256 then token (kind.Byte c) (tail rest) else refuse BadLiteral rest
+byte_of Open rest = refuse BadLiteral rest
+byte_of Escape rest = refuse BadLiteral rest
+byte_of Hex rest = refuse BadLiteral rest
+byte_of (Digit high) rest = refuse BadLiteral rest
+byte_of Unicode rest = refuse BadLiteral rest
+byte_of (Digits count value) rest = refuse BadLiteral rest
 
 -- the text whose literal was read up to this stage
 abbrev pub text_of : List ℕ → Stage → List ℕ → Read
 text_of text Open rest =
     if begins 34 rest
     then token (kind.Text (record { source = encode_utf8_all (take (length text - length rest) text) })) (tail rest)
-    else refuse L3 rest
-text_of text Escape rest = refuse L3 rest
-text_of text Hex rest = refuse L3 rest
-text_of text (Digit high) rest = refuse L3 rest
-text_of text Unicode rest = refuse L3 rest
-text_of text (Digits count value) rest = refuse L3 rest
-text_of text (Full c) rest = refuse L3 rest
+    else refuse BadLiteral rest
+text_of text Escape rest = refuse BadLiteral rest
+text_of text Hex rest = refuse BadLiteral rest
+text_of text (Digit high) rest = refuse BadLiteral rest
+text_of text Unicode rest = refuse BadLiteral rest
+text_of text (Digits count value) rest = refuse BadLiteral rest
+text_of text (Full c) rest = refuse BadLiteral rest
 
 unfoldable pub character_at : List ℕ → Read
 character_at text = let read = content literal.Character Open text in character_of read.0 read.1
@@ -125,14 +125,14 @@ quoted_at text = if is_lifetime text then lifetime_at text else character_at tex
 
 abbrev pub marked : List ℕ → Option (Punctuation × List ℕ) → Read
 marked text (Some found) = token (kind.Punctuation found.0) found.1
-marked text None = refuse L2 (tail text)
+marked text None = refuse UnknownCharacter (tail text)
 
 unfoldable pub mark_at : List ℕ → Read
 mark_at text = marked text (punctuation_at text)
 
 -- the token at the front of a text that does not begin with white space or a comment
 unfoldable pub token_at : List ℕ → Read
-token_at [] = refuse L2 []
+token_at [] = refuse UnknownCharacter []
 token_at (c ∷ rest) =
     if c == 98 && begins 39 rest then byte_at (tail rest)
     else (if c == 39 then quoted_at rest
@@ -143,7 +143,7 @@ token_at (c ∷ rest) =
 -- what follows a block comment, or its fault, which goes to the end
 abbrev pub block_end : Option (List ℕ) → Result (Option (List ℕ)) (Code × List ℕ)
 block_end (Some rest) = Ok (Some rest)
-block_end None = Err (L4, [])
+block_end None = Err (UnfinishedComment, [])
 
 -- what follows a comment, whose first `/` stands before this text
 unfoldable pub comment_at : List ℕ → Result (Option (List ℕ)) (Code × List ℕ)

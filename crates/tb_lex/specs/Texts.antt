@@ -2,7 +2,7 @@
 use Rattle.std.specs.Prelude.{◌≡◌, ℕ, ◌+◌, ◌-◌, ◌<◌, ◌≤◌, true, ◌==◌, if◌then◌else◌, List, [], ◌∷◌, ◌++◌, length, ⊤}
 use Rattle.std.specs.Str.{all_scalars, encode_utf8_all, IsValidUpTo}
 use Rattle.tb_perm.specs.declared.code.Code.{Code}
-use Rattle.tb_perm.specs.declared.code.Code.TheVariants.{L1}
+use Rattle.tb_perm.specs.declared.code.Code.TheVariants.{NotUtf8}
 use Rattle.tb_perm.specs.declared.span.Span.{Span}
 use Rattle.tb_lex.specs.declared.error.LexError.{LexError}
 use Rattle.tb_lex.specs.declared.error.LexError.TheVariants.{Refused, Memory}
@@ -56,7 +56,7 @@ pub record IsLexed (bytes : List ℕ) (tokens : List Token) : Type 0 where
 -- the bytes have this first fault: they are no UTF-8 from this byte on; or behind some tokens, which
 -- stand as they would in a text without fault, a fault stands
 pub data IsRefused (bytes : List ℕ) : Code → Span → Type 0 where
-  NoText : (lo : ℕ) → IsValidUpTo bytes lo → IsRefused bytes L1 (record { lo = lo; hi = lo + 1 })
+  NoText : (lo : ℕ) → IsValidUpTo bytes lo → IsRefused bytes NotUtf8 (record { lo = lo; hi = lo + 1 })
   Fault : (text : List ℕ) → IsText bytes text → (tokens : List Token) (front piece rest : List ℕ) (code : Code)
       → Reads (length bytes) (after_mark text) tokens front → front ≡ piece ++ rest → IsFault code piece rest
       → IsRefused bytes code (span_of (length bytes) front rest)

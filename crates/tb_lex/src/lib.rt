@@ -8,6 +8,7 @@
 
 mod character;
 mod comment;
+mod decoded;
 mod error;
 mod keyword;
 mod literal;
@@ -19,6 +20,7 @@ mod suffix;
 mod token;
 mod word;
 
+pub use decoded::TextCharacter;
 pub use error::LexError;
 pub use keyword::Keyword;
 pub use punctuation::Punctuation;

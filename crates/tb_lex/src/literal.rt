@@ -194,7 +194,7 @@ fn next_stage(literal: Literal, stage: Stage, c: char) -> Option<Stage>
 }
 
 /// The stage to which a text leads, and what follows from where no literal goes on so.
-fn content(literal: Literal, text: &[char]) -> (Stage, &[char])
+pub fn content(literal: Literal, text: &[char]) -> (Stage, &[char])
     ensures content { (result.0, result.1.now) ≡ content literal Stage.Open text.now }
     ensures shorter { length result.1.now ≤ length text.now }
 {
@@ -217,7 +217,7 @@ pub fn character_at(text: &[char]) -> Result<(TokenKind, &[char]), Fault<'_>>
 {
     match content(Literal::Character, text) {
         (Stage::Full(c), ['\'', rest @ ..]) => Ok((TokenKind::Character(c), rest)),
-        (_, rest) => Err(Fault::Refused(Code::L3, rest)),
+        (_, rest) => Err(Fault::Refused(Code::BadLiteral, rest)),
     }
 }
 
@@ -230,7 +230,7 @@ pub fn byte_at(text: &[char]) -> Result<(TokenKind, &[char]), Fault<'_>>
         (Stage::Full(c), ['\'', rest @ ..]) if c as u32 <= 0xff => {
             Ok((TokenKind::Byte(c as u8), rest))
         }
-        (_, rest) => Err(Fault::Refused(Code::L3, rest)),
+        (_, rest) => Err(Fault::Refused(Code::BadLiteral, rest)),
     }
 }
 
@@ -244,6 +244,6 @@ pub fn text_at(alloc: Global, text: &[char]) -> Result<(TokenKind, &[char]), Fau
             let source = encoded(alloc, &text[..text.len() - rest.len() - 1])?;
             Ok((TokenKind::Text(Text { source }), rest))
         }
-        (_, rest) => Err(Fault::Refused(Code::L3, rest)),
+        (_, rest) => Err(Fault::Refused(Code::BadLiteral, rest)),
     }
 }

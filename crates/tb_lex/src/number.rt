@@ -102,7 +102,7 @@ fn suffixed(value: u64, tail: &[char]) -> Result<Integer, Code>
             value,
             suffix: Some(suffix),
         }),
-        None => Err(Code::L6),
+        None => Err(Code::UnknownSuffix),
     }
 }
 
@@ -114,7 +114,7 @@ fn integer_of(word: &[char]) -> Result<Integer, Code>
     let (base, rest) = based(word);
     let tail = after_digits(base, rest);
     let Some(value) = number_of(base, &rest[..rest.len() - tail.len()]) else {
-        return Err(Code::L5);
+        return Err(Code::BadNumber);
     };
     suffixed(value, tail)
 }

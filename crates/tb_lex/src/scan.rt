@@ -34,7 +34,7 @@ fn mark_at(text: &[char]) -> Result<(TokenKind, &[char]), Fault<'_>>
 {
     match punctuation_at(text) {
         Some((punctuation, rest)) => Ok((TokenKind::Punctuation(punctuation), rest)),
-        None => Err(Fault::Refused(Code::L2, tail(text))),
+        None => Err(Fault::Refused(Code::UnknownCharacter, tail(text))),
     }
 }
 
@@ -45,7 +45,7 @@ pub fn token_at(alloc: Global, text: &[char]) -> Result<(TokenKind, &[char]), Fa
     ensures { Gives (λ x. (x.0, x.1.now)) result (token_at text.now) }
 {
     let [first, inner @ ..] = text else {
-        return Err(Fault::Refused(Code::L2, text));
+        return Err(Fault::Refused(Code::UnknownCharacter, text));
     };
     if *first == 'b' && begins_with('\'', inner) {
         return byte_at(tail(inner));
@@ -74,7 +74,7 @@ fn comment_at(text: &[char]) -> Result<Option<&[char]>, Fault<'_>>
         ['/', inner @ ..] => Ok(Some(after_line(inner))),
         ['*', inner @ ..] => match after_block(inner) {
             Some(rest) => Ok(Some(rest)),
-            None => Err(Fault::Refused(Code::L4, &[])),
+            None => Err(Fault::Refused(Code::UnfinishedComment, &[])),
         },
         _ => Ok(None),
     }

@@ -124,7 +124,7 @@ fn after_mark(text: &[char]) -> (u32, &[char])
 
 /// The characters of a text.
 #[tactic(auto, using(crate::proofs::Whole::decoding))]
-fn characters_of(alloc: Global, text: &str) -> Result<Vec<char>, AllocError>
+pub fn characters_of(alloc: Global, text: &str) -> Result<Vec<char>, AllocError>
     ensures { IfOk result (λ characters. characters.items ≡ chars text.now) }
 {
     text.chars().collect(alloc)
@@ -184,7 +184,7 @@ pub fn lex(alloc: Global, text: &[u8]) -> Result<Tokens, LexError>
         },
         Err(error) => {
             let at = error.valid_up_to() as u32;
-            Err(LexError::Refused(Code::L1, Span { lo: at, hi: at + 1 }))
+            Err(LexError::Refused(Code::NotUtf8, Span { lo: at, hi: at + 1 }))
         }
     }
 }

@@ -4,7 +4,6 @@ ghost use Rattle.std.specs.List.{range_with_len};
 ghost use Rattle.tb_lower.specs.Lowering.{put, local_at, type_at, types_of, clears, variable_place, deref_place};
 ghost use Rattle.tb_lower.specs.Ways.{Shape, count, number};
 
-use crate::memory::Memory;
 use sqlite_items::Items;
 use std::alloc::{AllocError, Global};
 use tb_mir::{Base, Line, Local, LocalKind, MirLine, Place, Ty};
@@ -76,7 +75,7 @@ impl Lowering {
     }
 
     /// Adds a line.
-    pub fn emit(&mut self, line: Line, span: Span) -> Result<(), Memory>
+    pub fn emit(&mut self, line: Line, span: Span) -> Result<(), AllocError>
         ensures lines { OnOk result (self.new.lines.items ≡ self.old.lines.items ++ put line span ∷ []) }
         ensures locals { self.new.locals ≡ self.old.locals }
         ensures variables { self.new.variables ≡ self.old.variables }
@@ -85,8 +84,8 @@ impl Lowering {
         Ok(())
     }
 
-    /// Brings in a local, and answers its number.
-    pub fn bring(&mut self, kind: LocalKind, ty: Ty) -> Result<u32, Memory>
+    /// Brings in a local, and returns its number.
+    pub fn bring(&mut self, kind: LocalKind, ty: Ty) -> Result<u32, AllocError>
         requires { vec_len self.old.locals < 4096 }
         ensures number { IfOk result (λ local. local ≡ vec_len self.old.locals) }
         ensures locals { OnOk result (self.new.locals.items ≡ self.old.locals.items ++ record { kind = kind; ty = ty } ∷ []) }
@@ -125,7 +124,7 @@ impl Lowering {
 
     /// Takes away the values of the temporaries from `start` on and up to before `end`, if there are
     /// any.
-    pub fn clear(&mut self, start: u32, end: u32, span: Span) -> Result<(), Memory>
+    pub fn clear(&mut self, start: u32, end: u32, span: Span) -> Result<(), AllocError>
         requires { start ≤ end }
         ensures lines { (shape : Shape) → start + count shape ≡ end → OnOk result (self.new.lines.items ≡ self.old.lines.items ++ clears (number start shape) span shape) }
         ensures locals { self.new.locals ≡ self.old.locals }

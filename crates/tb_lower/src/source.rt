@@ -7,15 +7,14 @@ ghost use Rattle.tb_lower.specs.Ready.{AreReady};
 ghost use Rattle.tb_lower.specs.Ways.{count, brings};
 
 use crate::lowering::Lowering;
-use crate::memory::Memory;
 use sqlite_items::Items;
-use std::alloc::Global;
+use std::alloc::{AllocError, Global};
 use tb_mir::{Block, Constant, Func, Line, Local, LocalKind, Mir, MirLine, Operand, Rvalue, Ty};
 use tb_small::SmallTree;
 
 impl Lowering {
     /// Lowers the function of a source: its result is the first local, and then the body follows.
-    fn function(&mut self, tree: &SmallTree) -> Result<(), Memory>
+    fn function(&mut self, tree: &SmallTree) -> Result<(), AllocError>
         requires room { vec_len self.old.locals + count (main_shape tree.now) ≤ 4096 }
         requires variables { self.old.variables.items ≡ [] }
         requires ready { AreReady 0 tree.now.body.statements }
@@ -32,7 +31,7 @@ impl Lowering {
 }
 
 /// The program of one function, which is called `main` and has one block.
-fn main_of(alloc: Global, lines: Vec<MirLine>, locals: Vec<Local>) -> Result<Mir, Memory>
+fn main_of(alloc: Global, lines: Vec<MirLine>, locals: Vec<Local>) -> Result<Mir, AllocError>
     ensures { IfOk result (λ mir. mir ≡ record { funcs = record { name = codes "main"; params = []; locals = locals.items; blocks = record { lines = lines.items } ∷ [] } ∷ [] }) }
 {
     let mut blocks = Vec::new(alloc);
@@ -53,7 +52,7 @@ fn main_of(alloc: Global, lines: Vec<MirLine>, locals: Vec<Local>) -> Result<Mir
 
 /// The middle representation of a source: its function `main`, whose locals are numbered in the
 /// order in which they are brought in. It has no retags yet.
-pub fn lower_source(alloc: Global, tree: &SmallTree) -> Result<Mir, Memory>
+pub fn lower_source(alloc: Global, tree: &SmallTree) -> Result<Mir, AllocError>
     requires scopes { AreStatements [] tree.now.body.statements }
     requires limits { IsWithinLimits tree.now }
     ensures { IfOk result (λ mir. Realises tree.now mir) }

@@ -7,17 +7,17 @@ ghost use Rattle.tb_lower.specs.Ready.{IsRightReady, IsAssignReady, IsPrintReady
 ghost use Rattle.tb_lower.specs.Ways.{count, brings};
 
 use crate::lowering::{Declared, Lowering, variable_place};
-use crate::memory::Memory;
 use crate::spans::span_of_assign;
 use crate::values::lower_ty;
 use sqlite_items::Items;
+use std::alloc::AllocError;
 use tb_mir::{Line, LocalKind};
 use tb_perm::Span;
 use tb_small::{Assign, Inner, Let, Print, Statement, UnsafeBlock};
 
 impl Lowering {
     /// Lowers a `let`: its value, and then its variable begins to live and takes it.
-    fn binding(&mut self, binding: &Let) -> Result<(), Memory>
+    fn binding(&mut self, binding: &Let) -> Result<(), AllocError>
         requires room { vec_len self.old.locals + count (let_shape (types self.old) binding.now) ≤ 4096 }
         requires ready { IsRightReady (vec_len self.old.variables) binding.now.value }
         ensures lines { OnOk result (self.new.lines.items ≡ self.old.lines.items ++ let_lines (names self.old (let_shape (types self.old) binding.now)) self.old.variables.items binding.now) }
@@ -37,7 +37,7 @@ impl Lowering {
     }
 
     /// Computes a value and then a place, and stores the value there.
-    fn store(&mut self, assign: &Assign) -> Result<(), Memory>
+    fn store(&mut self, assign: &Assign) -> Result<(), AllocError>
         requires room { vec_len self.old.locals + count (assign_shape (types self.old) assign.now) ≤ 4096 }
         requires ready { IsAssignReady (vec_len self.old.variables) assign.now }
         ensures lines { OnOk result (self.new.lines.items ≡ self.old.lines.items ++ store_lines (names self.old (assign_shape (types self.old) assign.now)) self.old.variables.items assign.now) }
@@ -51,7 +51,7 @@ impl Lowering {
     }
 
     /// Lowers an assignment: its value, then its place, and then the value is stored.
-    fn assign(&mut self, assign: &Assign) -> Result<(), Memory>
+    fn assign(&mut self, assign: &Assign) -> Result<(), AllocError>
         requires room { vec_len self.old.locals + count (assign_shape (types self.old) assign.now) ≤ 4096 }
         requires ready { IsAssignReady (vec_len self.old.variables) assign.now }
         ensures lines { OnOk result (self.new.lines.items ≡ self.old.lines.items ++ assign_lines (names self.old (assign_shape (types self.old) assign.now)) self.old.variables.items assign.now) }
@@ -66,7 +66,7 @@ impl Lowering {
     }
 
     /// Lowers a print: its arguments from left to right, and then the print.
-    fn print(&mut self, print: &Print) -> Result<(), Memory>
+    fn print(&mut self, print: &Print) -> Result<(), AllocError>
         requires room { vec_len self.old.locals + count (print_shape (types self.old) print.now) ≤ 4096 }
         requires ready { IsPrintReady (vec_len self.old.variables) print.now }
         ensures lines { OnOk result (self.new.lines.items ≡ self.old.lines.items ++ print_lines (names self.old (print_shape (types self.old) print.now)) self.old.variables.items print.now) }
@@ -83,7 +83,7 @@ impl Lowering {
     }
 
     /// Lowers a statement of an `unsafe` block.
-    fn inner(&mut self, inner: &Inner) -> Result<(), Memory>
+    fn inner(&mut self, inner: &Inner) -> Result<(), AllocError>
         requires room { vec_len self.old.locals + count (inner_shape (types self.old) inner.now) ≤ 4096 }
         requires ready { IsInnerReady (vec_len self.old.variables) inner.now }
         ensures lines { OnOk result (self.new.lines.items ≡ self.old.lines.items ++ inner_lines (names self.old (inner_shape (types self.old) inner.now)) self.old.variables.items inner.now) }
@@ -98,7 +98,7 @@ impl Lowering {
     }
 
     /// Lowers the statements of an `unsafe` block, one after another.
-    fn inners(&mut self, inners: &[Inner]) -> Result<(), Memory>
+    fn inners(&mut self, inners: &[Inner]) -> Result<(), AllocError>
         requires room { vec_len self.old.locals + count (inners_shape (types self.old) inners.now) ≤ 4096 }
         requires ready { AllByRecursion (IsInnerReady (vec_len self.old.variables)) inners.now }
         ensures lines { OnOk result (self.new.lines.items ≡ self.old.lines.items ++ inners_lines (names self.old (inners_shape (types self.old) inners.now)) self.old.variables.items inners.now) }
@@ -114,7 +114,7 @@ impl Lowering {
 
     /// Lowers an `unsafe` block. As the last statement of a body it is the body's value, and has no
     /// end of its own.
-    fn unsafe_block(&mut self, is_last: bool, block: &UnsafeBlock) -> Result<(), Memory>
+    fn unsafe_block(&mut self, is_last: bool, block: &UnsafeBlock) -> Result<(), AllocError>
         requires room { vec_len self.old.locals + count (inners_shape (types self.old) block.now.statements) ≤ 4096 }
         requires ready { AllByRecursion (IsInnerReady (vec_len self.old.variables)) block.now.statements }
         ensures lines { OnOk result (self.new.lines.items ≡ self.old.lines.items ++ unsafe_lines (names self.old (inners_shape (types self.old) block.now.statements)) self.old.variables.items is_last block.now) }
@@ -132,7 +132,7 @@ impl Lowering {
     }
 
     /// Lowers a statement.
-    fn statement(&mut self, is_last: bool, statement: &Statement) -> Result<(), Memory>
+    fn statement(&mut self, is_last: bool, statement: &Statement) -> Result<(), AllocError>
         requires room { vec_len self.old.locals + count (statement_shape (types self.old) statement.now) ≤ 4096 }
         requires ready { IsStatementReady (vec_len self.old.variables) statement.now }
         ensures lines { OnOk result (self.new.lines.items ≡ self.old.lines.items ++ statement_lines (names self.old (statement_shape (types self.old) statement.now)) self.old.variables.items is_last statement.now) }
@@ -149,7 +149,7 @@ impl Lowering {
     }
 
     /// Lowers the statements of a body, one after another.
-    pub fn statements(&mut self, statements: &[Statement]) -> Result<(), Memory>
+    pub fn statements(&mut self, statements: &[Statement]) -> Result<(), AllocError>
         requires room { vec_len self.old.locals + count (statements_shape (types self.old) statements.now) ≤ 4096 }
         requires ready { AreReady (vec_len self.old.variables) statements.now }
         ensures lines { OnOk result (self.new.lines.items ≡ self.old.lines.items ++ statements_lines (names self.old (statements_shape (types self.old) statements.now)) self.old.variables.items statements.now) }
@@ -167,7 +167,7 @@ impl Lowering {
 
     /// Ends a block: its variables end in reverse order.
     #[tactic(auto, using(crate::proofs::Ends::ends_next))]
-    pub fn end_scope(&mut self, span: Span) -> Result<(), Memory>
+    pub fn end_scope(&mut self, span: Span) -> Result<(), AllocError>
         ensures lines { OnOk result (self.new.lines.items ≡ self.old.lines.items ++ scope_end span self.old.variables.items) }
         ensures locals { self.new.locals ≡ self.old.locals }
     {

@@ -8,9 +8,9 @@ ghost use Rattle.tb_lower.specs.Ready.{IsSpotReady, IsAtomReady, IsSumReady, IsV
 ghost use Rattle.tb_lower.specs.Ways.{count, brings, own};
 
 use crate::lowering::{Lowering, deref_place, variable_place};
-use crate::memory::Memory;
 use crate::spans::{span_from_to, span_of_spot};
 use sqlite_items::Items;
+use std::alloc::AllocError;
 use tb_mir::{BinOp, Constant, Line, LocalKind, Operand, Place, RefKind, Rvalue, Ty};
 use tb_small::{Atom, Borrow, Right, Spot, Sum, Value};
 
@@ -38,7 +38,7 @@ pub fn lower_ty(ty: tb_small::Ty) -> Ty
 
 impl Lowering {
     /// Lowers a place. The pointer of `*x` is loaded into a temporary for the place.
-    pub fn spot(&mut self, spot: Spot) -> Result<Place, Memory>
+    pub fn spot(&mut self, spot: Spot) -> Result<Place, AllocError>
         requires room { vec_len self.old.locals + count (spot_shape (types self.old) spot) ≤ 4096 }
         requires ready { IsSpotReady (vec_len self.old.variables) spot }
         ensures place { IfOk result (λ place. place ≡ spot_place (names self.old (spot_shape (types self.old) spot)) self.old.variables.items spot) }
@@ -60,7 +60,7 @@ impl Lowering {
     }
 
     /// Loads what a place holds, of this type.
-    fn load(&mut self, ty: Ty, spot: Spot) -> Result<Operand, Memory>
+    fn load(&mut self, ty: Ty, spot: Spot) -> Result<Operand, AllocError>
         requires room { vec_len self.old.locals + count (load_shape (types self.old) ty spot) ≤ 4096 }
         requires ready { IsSpotReady (vec_len self.old.variables) spot }
         ensures operand { IfOk result (λ operand. operand ≡ Operand.Temp (own (names self.old (load_shape (types self.old) ty spot)) 1)) }
@@ -76,7 +76,7 @@ impl Lowering {
     }
 
     /// Lowers an atom: a place is loaded, and a literal is a constant.
-    fn atom(&mut self, atom: Atom) -> Result<Operand, Memory>
+    fn atom(&mut self, atom: Atom) -> Result<Operand, AllocError>
         requires room { vec_len self.old.locals + count (atom_shape (types self.old) atom) ≤ 4096 }
         requires ready { IsAtomReady (vec_len self.old.variables) atom }
         ensures operand { IfOk result (λ operand. operand ≡ atom_operand (names self.old (atom_shape (types self.old) atom)) atom) }
@@ -93,7 +93,7 @@ impl Lowering {
     }
 
     /// Adds a further atom to what stands to the left of it in a sum.
-    fn add(&mut self, first: Atom, left: Operand, atom: Atom) -> Result<Operand, Memory>
+    fn add(&mut self, first: Atom, left: Operand, atom: Atom) -> Result<Operand, AllocError>
         requires room { vec_len self.old.locals + count (addition_shape (types self.old) atom) ≤ 4096 }
         requires ready { IsAtomReady (vec_len self.old.variables) atom }
         ensures operand { IfOk result (λ operand. operand ≡ Operand.Temp (own (names self.old (addition_shape (types self.old) atom)) 1)) }
@@ -110,7 +110,7 @@ impl Lowering {
     }
 
     /// Adds further atoms, one after another.
-    fn more(&mut self, first: Atom, left: Operand, atoms: &[Atom]) -> Result<Operand, Memory>
+    fn more(&mut self, first: Atom, left: Operand, atoms: &[Atom]) -> Result<Operand, AllocError>
         requires room { vec_len self.old.locals + count (more_shape (types self.old) atoms.now) ≤ 4096 }
         requires ready { AllByRecursion (IsAtomReady (vec_len self.old.variables)) atoms.now }
         ensures operand { IfOk result (λ operand. operand ≡ more_operand (names self.old (more_shape (types self.old) atoms.now)) left atoms.now) }
@@ -127,7 +127,7 @@ impl Lowering {
     }
 
     /// Lowers a sum, from left to right.
-    fn sum(&mut self, sum: &Sum) -> Result<Operand, Memory>
+    fn sum(&mut self, sum: &Sum) -> Result<Operand, AllocError>
         requires room { vec_len self.old.locals + count (sum_shape (types self.old) sum.now) ≤ 4096 }
         requires ready { IsSumReady (vec_len self.old.variables) sum.now }
         ensures operand { IfOk result (λ operand. operand ≡ sum_operand (names self.old (sum_shape (types self.old) sum.now)) sum.now) }
@@ -140,8 +140,8 @@ impl Lowering {
         self.more(sum.first, left, sum.rest.as_slice())
     }
 
-    /// Lowers the sums of a print, and answers their values.
-    pub fn sums(&mut self, sums: &[Sum]) -> Result<Items<Operand>, Memory>
+    /// Lowers the sums of a print, and returns their values.
+    pub fn sums(&mut self, sums: &[Sum]) -> Result<Items<Operand>, AllocError>
         requires room { vec_len self.old.locals + count (sums_shape (types self.old) sums.now) ≤ 4096 }
         requires ready { AllByRecursion (IsSumReady (vec_len self.old.variables)) sums.now }
         ensures operands { IfOk result (λ operands. operands ≡ sums_operands (names self.old (sums_shape (types self.old) sums.now)) sums.now) }
@@ -158,7 +158,7 @@ impl Lowering {
     }
 
     /// Makes a pointer to a place.
-    fn borrow(&mut self, borrow: Borrow) -> Result<Operand, Memory>
+    fn borrow(&mut self, borrow: Borrow) -> Result<Operand, AllocError>
         requires room { vec_len self.old.locals + count (borrow_shape (types self.old) borrow) ≤ 4096 }
         requires ready { IsSpotReady (vec_len self.old.variables) borrow.operand }
         ensures operand { IfOk result (λ operand. operand ≡ Operand.Temp (own (names self.old (borrow_shape (types self.old) borrow)) 1)) }
@@ -175,7 +175,7 @@ impl Lowering {
     }
 
     /// Lowers a value.
-    fn value(&mut self, value: &Value) -> Result<Operand, Memory>
+    fn value(&mut self, value: &Value) -> Result<Operand, AllocError>
         requires room { vec_len self.old.locals + count (value_shape (types self.old) value.now) ≤ 4096 }
         requires ready { IsValueReady (vec_len self.old.variables) value.now }
         ensures operand { IfOk result (λ operand. operand ≡ value_operand (names self.old (value_shape (types self.old) value.now)) value.now) }
@@ -195,7 +195,7 @@ impl Lowering {
     }
 
     /// Lowers a right side.
-    pub fn right(&mut self, right: &Right) -> Result<Operand, Memory>
+    pub fn right(&mut self, right: &Right) -> Result<Operand, AllocError>
         requires room { vec_len self.old.locals + count (right_shape (types self.old) right.now) ≤ 4096 }
         requires ready { IsRightReady (vec_len self.old.variables) right.now }
         ensures operand { IfOk result (λ operand. operand ≡ right_operand (names self.old (right_shape (types self.old) right.now)) right.now) }

@@ -1,7 +1,7 @@
 ghost use Rattle.std.specs.Prelude.{◌≡◌, ◌≤◌, ◌+◌, length, IfOk, OnOk};
 
-use std::alloc::Global;
-use tb_bytes::{ByteVal, Bytes, Memory};
+use std::alloc::{AllocError, Global};
+use tb_bytes::{ByteVal, Bytes};
 use tb_perm::{AllocId, Prov, Tag};
 
 const NONE: ByteVal = ByteVal::Uninit;
@@ -24,7 +24,7 @@ fn plain(value: u8) -> ByteVal {
 }
 
 /// Eight bytes: one that is not initialised, a pointer's four, two plain ones, and again one that is not.
-fn sample(alloc: Global) -> Result<Bytes, Memory>
+fn sample(alloc: Global) -> Result<Bytes, AllocError>
     ensures { IfOk result (λ bytes. length bytes ≡ 8) }
 {
     let p = prov(2, 7);
@@ -164,7 +164,7 @@ fn writes_over_pointers(rt: HostRuntime) {
 }
 
 /// The sample with a torn pointer and two more: p once, q twice with a gap, and r behind it at once.
-fn torn(alloc: Global) -> Result<Bytes, Memory> {
+fn torn(alloc: Global) -> Result<Bytes, AllocError> {
     let q = prov(1, 9);
     let r = prov(2, 3);
     let mut bytes = sample(alloc)?;
@@ -173,7 +173,7 @@ fn torn(alloc: Global) -> Result<Bytes, Memory> {
 }
 
 /// The sample after its pointer was written over.
-fn cleared(alloc: Global) -> Result<Bytes, Memory> {
+fn cleared(alloc: Global) -> Result<Bytes, AllocError> {
     let mut bytes = sample(alloc)?;
     bytes.write(0, &[plain(0), NONE, plain(1), NONE, NONE])?;
     Ok(bytes)
@@ -193,7 +193,7 @@ fn lists(bytes: &Bytes, want: &[Prov]) -> bool {
 }
 
 #[test]
-fn finds_the_next_provenance(rt: HostRuntime) -> Result<(), Memory> {
+fn finds_the_next_provenance(rt: HostRuntime) -> Result<(), AllocError> {
     let (p, q, r) = (prov(2, 7), prov(1, 9), prov(2, 3));
     let whole = sample(rt.alloc())?;
     assert!(rt; finds(&whole, 0, 5, p));
@@ -210,7 +210,7 @@ fn finds_the_next_provenance(rt: HostRuntime) -> Result<(), Memory> {
 }
 
 #[test]
-fn lists_provenances(rt: HostRuntime) -> Result<(), Memory> {
+fn lists_provenances(rt: HostRuntime) -> Result<(), AllocError> {
     let (p, q, r) = (prov(2, 7), prov(1, 9), prov(2, 3));
     assert!(rt; lists(&torn(rt.alloc())?, &[q, r, p]));
     assert!(rt; lists(&sample(rt.alloc())?, &[p]));

@@ -84,10 +84,10 @@ use_behind u = path_pieces u.path ++ (group_row u.group ++ punct Semicolon u.sem
 abbrev struct_behind : Struct → List Piece
 struct_behind s = ident s.name ∷ (lifetimes_row s.lifetimes ++ (punct OpenBrace s.opening ∷ (separated Comma (map member_row s.fields) s.commas ++ punct CloseBrace s.closing ∷ [])))
 
-abbrev extern_behind : ExternBlock → List Piece
+abbrev pub extern_behind : ExternBlock → List Piece
 extern_behind block = text_piece block.abi ∷ punct OpenBrace block.opening ∷ (in_order (map foreign_row block.functions) ++ punct CloseBrace block.closing ∷ [])
 
-abbrev head_behind : FunctionHead → List Piece
+abbrev pub head_behind : FunctionHead → List Piece
 head_behind head = ident head.name ∷ (generics_row head.generics ++ (punct OpenParen head.opening ∷ (separated Comma (map parameter_row head.parameters) head.commas ++ (punct CloseParen head.closing ∷ optional_result head.result))))
 
 pub kind-no-pound : (state : State) (k : ItemKind) (rest : State) → IsKindAt state k rest → has_mark Pound state ≡ false

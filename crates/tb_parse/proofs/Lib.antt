@@ -1,7 +1,15 @@
 pub mod Within
 pub mod Firsts
+pub mod HeadDepths
 pub mod ItemKinds
 pub mod Whole
 pub mod Spelled
+pub mod OneFile
 pub mod One
-pub mod Promises
+pub mod Aligned
+pub mod Past
+pub mod Cuts
+pub mod BodyFronts
+pub mod ItemFronts
+pub mod Refused
+pub mod Ends

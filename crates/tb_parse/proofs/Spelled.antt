@@ -74,7 +74,7 @@ is-state : (tokens : List Token) → IsState (map piece_of tokens)
 is-state [] = tt
 is-state (token ∷ tokens) = all-apart tokens
 
-back : (tokens : List Token) → map token_of (map piece_of tokens) ≡ tokens
+pub back : (tokens : List Token) → map token_of (map piece_of tokens) ≡ tokens
 back [] = refl
 back (token ∷ tokens) = ap (λ (ts : List Token). token ∷ ts) (back tokens)
 

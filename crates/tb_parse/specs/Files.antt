@@ -79,15 +79,3 @@ kind_at depth state =
 
 unfoldable pub item_at : ℕ → State → Option (Item × State)
 item_at depth state = attributes_at state >>= λ attributes. kind_at depth attributes.1 >>= λ kind. Some (item_of attributes.0 kind.0, kind.1)
-
--- something is left
-abbrev pub has_more : State → Bool
-has_more [] = false
-has_more (piece ∷ state) = true
-
-abbrev pub items_at : ℕ → State → Option (List Item × State)
-items_at depth state = repeated_at has_more (item_at depth) state
-
--- attributes of the file, and items to the end
-unfoldable pub file_at : ℕ → State → Option (List InnerAttribute × List Item)
-file_at depth state = inners_at state >>= λ inners. items_at depth inners.1 >>= λ items. Some (inners.0, items.0)

@@ -1,2 +1,3 @@
 pub mod Files
 pub mod Trees
+pub mod Fronts

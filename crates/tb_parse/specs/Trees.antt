@@ -1,8 +1,6 @@
 -- Which tokens a tree stands for: the items and the whole file.
 use Rattle.std.specs.Prelude.{◌≡◌, ◌≤◌, ℕ, Bool, true, false, List, [], ◌∷◌, ◌++◌, map, Option, None, Some, Result, Ok, Err}
 use Rattle.std.specs.List.{AllByRecursion}
-use Rattle.tb_perm.specs.declared.span.Span.{Span}
-use Rattle.tb_perm.specs.declared.code.Code.TheVariants.{P1}
 use Rattle.tb_lex.specs.declared.token.Tokens.{Tokens}
 use Rattle.tb_ast.specs.declared.item.InnerAttribute.{InnerAttribute}
 use Rattle.tb_ast.specs.declared.item.Attribute.{Attribute}
@@ -40,6 +38,16 @@ pub data IsItemAt : State → Item → State → Type 0 where
   AnItem : {state rest : State} (attributes : List Attribute) (kind : ItemKind) (a : State)
       → Stands (in_order (map attribute_row attributes)) state a → AllByRecursion IsAttribute attributes → IsKindAt a kind rest → IsItemAt state (item_of attributes kind) rest
 
+-- items one behind another, up to this rest, and attributes of the file so
+pub data IsRun : State → List Item → State → Type 0 where
+  NoRun : {state : State} → IsRun state [] state
+  LongerRun : {state rest : State} (first : Item) (others : List Item) (a : State) → IsItemAt state first a → IsRun a others rest → IsRun state (first ∷ others) rest
+
+pub data IsInnerRun : State → List InnerAttribute → State → Type 0 where
+  NoInnerRun : {state : State} → IsInnerRun state [] state
+  LongerInnerRun : {state rest : State} (first : InnerAttribute) (others : List InnerAttribute) (a : State)
+      → Stands (inner_row first) state a → IsInner first → IsInnerRun a others rest → IsInnerRun state (first ∷ others) rest
+
 -- items one behind another, and nothing behind them
 pub data AreItems : State → List Item → Type 0 where
   NoItems : AreItems [] []
@@ -57,15 +65,7 @@ pub record IsFile (state : State) (inners : List InnerAttribute) (items : List I
 abbrev pub IsTreeOf : Tokens → Tree → Type 0
 IsTreeOf tokens tree = IsFile (map piece_of tokens.list) tree.attributes tree.items × (tree.end ≡ tokens.end)
 
--- the refusal of today: its place is not yet exact
-abbrev pub refusal : ParseError
-refusal = errors.Refused P1 (record { lo = 0; hi = 0 })
-
+-- the tokens are refused
 abbrev pub IsRefusal : Result Tree ParseError → Type 0
 IsRefusal (Err (errors.Refused code span)) = Unit {0}
 IsRefusal other = ⊥
-
--- a refusal is that one
-abbrev pub RefusesSo : ParseError → Type 0
-RefusesSo (errors.Refused code span) = errors.Refused code span ≡ refusal
-RefusesSo errors.Memory = Unit {0}

@@ -1,14 +1,12 @@
-ghost use Rattle.std.specs.Prelude.{◌≡◌};
-ghost use Rattle.tb_parse.specs.Trees.{refusal};
-
+use std::alloc::AllocError;
 use tb_perm::{Code, Span};
 use thiserror::Error;
 
 /// Why there is no tree.
 #[derive(Debug, Drop, Error)]
 pub enum ParseError {
-    /// The tokens have no tree that is no deeper than 128. The code is P1, and the place is not exact yet:
-    /// it is empty at the beginning of the file.
+    /// The tokens have no tree that is no deeper than 128. The code is P1 or P2, and the place that of the
+    /// refused token, or the empty place at the end of the file.
     #[error("no tree")]
     Refused(Code, Span),
     /// The allocator had no room.
@@ -16,9 +14,14 @@ pub enum ParseError {
     Memory,
 }
 
-/// The refusal of tokens that have no tree.
-pub fn refusal() -> ParseError
-    ensures { result ≡ refusal }
-{
-    ParseError::Refused(Code::P1, Span { lo: 0, hi: 0 })
+impl From<AllocError> for ParseError {
+    ghost use Rattle.std.specs.Prelude.{◌≡◌};
+    ghost use Rattle.tb_parse.specs.declared.error.ParseError.{ParseError};
+    ghost use Rattle.tb_parse.specs.declared.error.ParseError.TheVariants.{Memory};
+
+    ghost from_gives = { λ _ error. error ≡ Memory };
+
+    fn from(_: AllocError) -> ParseError {
+        ParseError::Memory
+    }
 }

@@ -1,60 +1,97 @@
 //! Whole files.
 
-ghost use Rattle.std.specs.Prelude.{◌≡◌, ◌≤◌, IfOk, IfErr};
+ghost use Rattle.std.specs.Prelude.{◌≡◌, ◌≤◌, ◌<◌, map, length, IfOk, IfErr, IfSome, IfNone};
 ghost use Rattle.tb_ast.specs.declared.item.Tree.{Tree};
-ghost use Rattle.tb_ast.specs.Depth.{depth_of};
+ghost use Rattle.tb_ast.specs.Files.{inner_row};
+ghost use Rattle.tb_ast.specs.Depth.{deepest, item_depth, depth_of};
 ghost use Rattle.tb_ast.specs.Joined.{tokens_of};
-ghost use Rattle.tb_syntax.specs.Reading.{Gives};
-ghost use Rattle.tb_parse.specs.Files.{has_more, items_at, file_at};
-ghost use Rattle.tb_parse.specs.Trees.{IsTreeOf, IsRefusal, RefusesSo};
+ghost use Rattle.tb_syntax.specs.State.{Stands, piece_of};
+ghost use Rattle.tb_syntax.specs.Attributes.{IsInner};
+ghost use Rattle.tb_parse.specs.Trees.{IsItemAt, IsRun, IsInnerRun, IsTreeOf, IsRefusal};
+ghost use Rattle.tb_parse.specs.Fronts.{NoneTo, InnerTo, ItemTo, RefusesAs};
 
-use crate::error::{ParseError, refusal};
+use crate::error::ParseError;
+use crate::fronts::{behind, function_end};
 use crate::items::{DEPTH, item};
+use crate::refusal::{code_of, place_of};
 use sqlite_items::Items;
-use std::alloc::Global;
-use tb_ast::{InnerAttribute, Item, Tree, depth};
-use tb_lex::Tokens;
+use std::alloc::{AllocError, Global};
+use tb_ast::{InnerAttribute, Item, Tree, item_depth};
+use tb_lex::{Token, Tokens};
 use tb_syntax::{Cursor, ReadError};
 
-/// Whether something is left.
-fn has_more(cursor: &Cursor<'_>) -> bool
-    ensures { result ≡ has_more cursor.now }
+/// An attribute of the file, if one comes next, and what follows it.
+#[tactic(auto, using(crate::proofs::Ends::inners))]
+fn next_inner(
+    tokens: &[Token],
+    alloc: Global,
+) -> Result<Option<(InnerAttribute, &[Token])>, AllocError>
+    ensures found { IfOk result (λ found. IfSome found (λ x. Stands (inner_row x.0) (map piece_of tokens.now) (map piece_of x.1.now) × IsInner x.0)) }
+    ensures shorter { IfOk result (λ found. IfSome found (λ x. length x.1.now < length tokens.now)) }
+    ensures none { IfOk result (λ found. IfNone found (NoneTo (InnerTo (map piece_of tokens.now)))) }
 {
-    cursor.len() > 0
+    match Cursor::new(tokens).inner_attribute(alloc) {
+        Ok((inner, rest)) => Ok(Some((inner, behind(tokens, &rest)))),
+        Err(ReadError::Unexpected) => Ok(None),
+        Err(ReadError::Memory) => Err(AllocError),
+    }
 }
 
-/// Items, up to the end of the file.
-#[tactic(auto, using(tb_syntax::proofs::Rounds::loops), unfolding(tb_syntax::specs::Repeats::repeated_at))]
-fn items<'a>(cursor: Cursor<'a>, alloc: Global) -> Result<(Items<Item>, Cursor<'a>), ReadError>
-    ensures { Gives (λ x. x) result (items_at 127 cursor.entry) }
+/// The attributes of the file, as many as stand one behind another, and what follows them.
+#[tactic(auto, using(crate::proofs::OneFile::inner_runs))]
+fn inners(tokens: &[Token], alloc: Global) -> Result<(Items<InnerAttribute>, &[Token]), AllocError>
+    ensures run { IfOk result (λ x. IsInnerRun (map piece_of tokens.now) x.0 (map piece_of x.1.now)) }
+    ensures none { IfOk result (λ x. NoneTo (InnerTo (map piece_of x.1.now))) }
+{
+    let mut inners = Items::new(alloc);
+    let mut rest = tokens;
+    while !rest.is_empty() {
+        let Some((inner, after)) = next_inner(rest, alloc)? else {
+            return Ok((inners, rest));
+        };
+        inners.push(inner)?;
+        rest = after;
+    }
+    Ok((inners, rest))
+}
+
+/// An item that is not too deep, if one comes next, and what follows it.
+#[tactic(auto, using(crate::proofs::Ends::items))]
+fn next_item(tokens: &[Token], alloc: Global) -> Result<Option<(Item, &[Token])>, AllocError>
+    ensures found { IfOk result (λ found. IfSome found (λ x. IsItemAt (map piece_of tokens.now) x.0 (map piece_of x.1.now) × (item_depth x.0 ≤ 128))) }
+    ensures shorter { IfOk result (λ found. IfSome found (λ x. length x.1.now < length tokens.now)) }
+    ensures none { IfOk result (λ found. IfNone found (NoneTo (ItemTo (map piece_of tokens.now)))) }
+{
+    match item(Cursor::new(tokens), alloc) {
+        Ok((item, rest)) => {
+            if item_depth(&item) <= DEPTH {
+                Ok(Some((item, behind(tokens, &rest))))
+            } else {
+                Ok(None)
+            }
+        }
+        Err(ReadError::Unexpected) => Ok(None),
+        Err(ReadError::Memory) => Err(AllocError),
+    }
+}
+
+/// Items, as many as stand one behind another, and what follows them.
+#[tactic(auto, using(crate::proofs::OneFile::runs))]
+fn items(tokens: &[Token], alloc: Global) -> Result<(Items<Item>, &[Token]), AllocError>
+    ensures run { IfOk result (λ x. IsRun (map piece_of tokens.now) x.0 (map piece_of x.1.now)) }
+    ensures depth { IfOk result (λ x. deepest (map item_depth x.0) ≤ 128) }
+    ensures none { IfOk result (λ x. NoneTo (ItemTo (map piece_of x.1.now))) }
 {
     let mut items = Items::new(alloc);
-    let mut rest = cursor;
-    for _ in 0..rest.len() {
-        if !has_more(&rest) {
+    let mut rest = tokens;
+    while !rest.is_empty() {
+        let Some((item, after)) = next_item(rest, alloc)? else {
             return Ok((items, rest));
-        }
-        let (item, after) = item(rest, alloc)?;
+        };
         items.push(item)?;
         rest = after;
     }
-    if has_more(&rest) {
-        return Err(ReadError::Unexpected);
-    }
     Ok((items, rest))
-}
-
-/// The attributes and the items of the file.
-#[tactic(auto, unfolding(crate::specs::Files::file_at))]
-fn file(
-    cursor: Cursor<'_>,
-    alloc: Global,
-) -> Result<(Items<InnerAttribute>, Items<Item>), ReadError>
-    ensures { Gives (λ x. x) result (file_at 127 cursor.entry) }
-{
-    let (attributes, rest) = cursor.inner_attributes(alloc)?;
-    let (items, _) = items(rest, alloc)?;
-    Ok((attributes, items))
 }
 
 /// The tree of a whole file.
@@ -65,27 +102,27 @@ fn file(
 ///
 /// # Errors
 ///
-/// `Refused` where there is no such tree, with the code P1 and, so far, the empty place at the beginning;
-/// and `Memory` where the allocator has no room.
+/// `Refused` where there is no such tree, at the token behind the longest front of whole items and
+/// statements, or at the end of the file where all tokens are one. The code is P2 where, from that token
+/// on, more than 100 brackets more have been opened than closed after some token, and else P1. And
+/// `Memory` where the allocator has no room.
+#[tactic(auto, using(crate::proofs::Refused::parses))]
 pub fn parse(alloc: Global, tokens: &Tokens) -> Result<Tree, ParseError>
     ensures tree { IfOk result (λ tree. IsTreeOf tokens.now tree × (depth_of tree ≤ 128)) }
     ensures tokens { IfOk result (λ tree. tokens_of tree ≡ tokens.now) }
     ensures only { IfOk result (λ tree. (other : Tree) → IsTreeOf tokens.now other → other ≡ tree) }
     ensures refused { IsRefusal result → (tree : Tree) → IsTreeOf tokens.now tree → depth_of tree ≤ 128 → ⊥ }
-    ensures refusal { IfErr result RefusesSo }
+    ensures refusal { IfErr result (RefusesAs tokens.now) }
 {
-    let (attributes, items) = match file(Cursor::new(tokens.list.as_slice()), alloc) {
-        Ok(file) => file,
-        Err(ReadError::Unexpected) => return Err(refusal()),
-        Err(ReadError::Memory) => return Err(ParseError::Memory),
-    };
-    let tree = Tree {
+    let (attributes, rest) = inners(tokens.list.as_slice(), alloc)?;
+    let (items, rest) = items(rest, alloc)?;
+    if !rest.is_empty() {
+        let refused = function_end(rest, alloc)?;
+        return Err(ParseError::Refused(code_of(refused), place_of(refused, tokens.end)));
+    }
+    Ok(Tree {
         attributes,
         items,
         end: tokens.end,
-    };
-    if depth(&tree) > DEPTH {
-        return Err(refusal());
-    }
-    Ok(tree)
+    })
 }

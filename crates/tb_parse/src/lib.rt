@@ -6,9 +6,11 @@
 
 mod error;
 mod file;
+mod fronts;
 mod items;
 mod laws;
+mod refusal;
 
 pub use error::ParseError;
 pub use file::parse;
-pub use laws::law_one_tree;
+pub use laws::{law_one_refused, law_one_tree};

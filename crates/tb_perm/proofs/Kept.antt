@@ -7,7 +7,7 @@ use Rattle.std.proofs.lemmas.List.Elements.{recursion_from_All}
 use Rattle.std.proofs.lemmas.List.Folds.{list_any-append}
 use Rattle.std.proofs.lemmas.List.FromFn.{length-map-range_with_len}
 use Rattle.std.proofs.lemmas.List.{length-replicate}
-use Rattle.std.proofs.lemmas.Bool.{eq-eqb}
+use Rattle.std.proofs.lemmas.Bool.{eq-eqb, or_left}
 use mathlib.Core.List.{reverse_aux}
 use Rattle.tb_perm.specs.declared.perm.State.{State}
 use Rattle.tb_perm.specs.declared.perm.Kind.{Kind}
@@ -15,7 +15,7 @@ use Rattle.tb_perm.specs.declared.perm.Rel.{Rel}
 use Rattle.tb_perm.specs.declared.span.Span.{Span}
 use Rattle.tb_perm.specs.declared.perm.Guard.TheVariants.{Free}
 use Rattle.tb_perm.specs.declared.new_tag.NewTag.{NewTag}
-use Rattle.tb_perm.specs.Rows.{Row, is_tag, HasTag, IsNext, IsGrown, IsRows, way_back, is_on_way, unguarded, unguarded_row, root_row}
+use Rattle.tb_perm.specs.Rows.{Row, is_tag, HasTag, IsNext, IsGrown, IsRows, path_from, is_on_path, unguarded, unguarded_row, root_row}
 use Rattle.tb_perm.specs.Tree.{KeepsTree}
 use Rattle.tb_perm.specs.Event.{Event, after, moved_row, moved_states}
 use Rattle.tb_perm.specs.Reborrow.{reborrowed, reborrowed_rows, reborrow_event, new_row, new_state}
@@ -48,6 +48,14 @@ unguarded-keeps (row ∷ rows) t = (one.0, one.1, one.2, one.3, unguarded-keeps 
 pub KeepsTree-refl : (rows : List Row) → KeepsTree rows rows
 KeepsTree-refl [] = tt
 KeepsTree-refl (row ∷ rows) = (refl, refl, refl, refl, KeepsTree-refl rows)
+
+pub KeepsTree-chain : (xs ys zs : List Row) → KeepsTree xs ys → KeepsTree ys zs → KeepsTree xs zs
+KeepsTree-chain [] [] [] h k = tt
+KeepsTree-chain (x ∷ xs) (y ∷ ys) (z ∷ zs) h k = (k.0 ∙ h.0, k.1 ∙ h.1, k.2 ∙ h.2, k.3 ∙ h.3, KeepsTree-chain xs ys zs h.4 k.4)
+KeepsTree-chain [] (y ∷ ys) zs h k = absurd h
+KeepsTree-chain (x ∷ xs) [] zs h k = absurd h
+KeepsTree-chain [] [] (z ∷ zs) h k = absurd k
+KeepsTree-chain (x ∷ xs) (y ∷ ys) [] h k = absurd k
 
 length-AreBetween : (old new states : List State) → AreBetween old new states → length states ≡ length old
 length-AreBetween [] [] [] h = refl
@@ -90,23 +98,23 @@ All_tags-kept P (o ∷ old) (n ∷ new) h all = (subst P (sym h.0) all.0, All_ta
 All_tags-kept P [] (n ∷ new) h all = absurd h
 All_tags-kept P (o ∷ old) [] h all = absurd h
 
-way_back-kept : (old new : List Row) (asked : Option ℕ) (u : ℕ) → KeepsTree old new → list_any (is_tag u) (way_back new asked) ≡ list_any (is_tag u) (way_back old asked)
-way_back-kept [] [] asked u h = refl
-way_back-kept (o ∷ old) (n ∷ new) None u h = way_back-kept old new None u h.4
-way_back-kept (o ∷ old) (n ∷ new) (Some t) u h =
-    at (way_back-kept old new o.parent u h.4) (way_back-kept old new (Some t) u h.4) (n.tag == t) (o.tag == t) (ap (λ k. k == t) h.0)
+path_from-kept : (old new : List Row) (asked : Option ℕ) (u : ℕ) → KeepsTree old new → list_any (is_tag u) (path_from new asked) ≡ list_any (is_tag u) (path_from old asked)
+path_from-kept [] [] asked u h = refl
+path_from-kept (o ∷ old) (n ∷ new) None u h = path_from-kept old new None u h.4
+path_from-kept (o ∷ old) (n ∷ new) (Some t) u h =
+    at (path_from-kept old new o.parent u h.4) (path_from-kept old new (Some t) u h.4) (n.tag == t) (o.tag == t) (ap (λ k. k == t) h.0)
   where
-    at : list_any (is_tag u) (way_back new o.parent) ≡ list_any (is_tag u) (way_back old o.parent) → list_any (is_tag u) (way_back new (Some t)) ≡ list_any (is_tag u) (way_back old (Some t)) → (b c : Bool) → b ≡ c → list_any (is_tag u) (cond b (n ∷ way_back new n.parent) (way_back new (Some t))) ≡ list_any (is_tag u) (cond c (o ∷ way_back old o.parent) (way_back old (Some t)))
+    at : list_any (is_tag u) (path_from new o.parent) ≡ list_any (is_tag u) (path_from old o.parent) → list_any (is_tag u) (path_from new (Some t)) ≡ list_any (is_tag u) (path_from old (Some t)) → (b c : Bool) → b ≡ c → list_any (is_tag u) (cond b (n ∷ path_from new n.parent) (path_from new (Some t))) ≡ list_any (is_tag u) (cond c (o ∷ path_from old o.parent) (path_from old (Some t)))
     at up on true true e = rw (h.0, h.1, up) refl
     at up on false false e = on
     at up on true false e = cc
     at up on false true e = cc
-way_back-kept [] (n ∷ new) asked u h = absurd h
-way_back-kept (o ∷ old) [] asked u h = absurd h
+path_from-kept [] (n ∷ new) asked u h = absurd h
+path_from-kept (o ∷ old) [] asked u h = absurd h
 
 -- a tag has the same ancestors
-pub is_on_way-kept : (old new : List Row) (t u : ℕ) → KeepsTree old new → is_on_way new t u ≡ is_on_way old t u
-is_on_way-kept old new t u h = way_back-kept (reverse old) (reverse new) (Some t) u (KeepsTree-reverse_aux old new [] [] h tt)
+pub is_on_path-kept : (old new : List Row) (t u : ℕ) → KeepsTree old new → is_on_path new t u ≡ is_on_path old t u
+is_on_path-kept old new t u h = path_from-kept (reverse old) (reverse new) (Some t) u (KeepsTree-reverse_aux old new [] [] h tt)
 
 IsNext-kept : (old new : List Row) (o n : Row) → KeepsTree old new → n.tag ≡ o.tag → n.parent ≡ o.parent → IsNext old o → IsNext new n
 IsNext-kept old new o n h tag parent next =
@@ -117,7 +125,7 @@ IsNext-kept old new o n h tag parent next =
       has_parent = HasTag-kept old new next.parent h next.has_parent;
     }
 
-IsGrown-kept : (old new : List Row) → KeepsTree old new → IsGrown old → IsGrown new
+pub IsGrown-kept : (old new : List Row) → KeepsTree old new → IsGrown old → IsGrown new
 IsGrown-kept [] [] h grown = grown
 IsGrown-kept (o ∷ []) (n ∷ []) h grown = h.1 ∙ grown
 IsGrown-kept (o ∷ p ∷ old) (n ∷ q ∷ new) h grown =
@@ -127,7 +135,7 @@ IsGrown-kept (o ∷ old) [] h grown = absurd h
 IsGrown-kept (o ∷ []) (n ∷ q ∷ new) h grown = absurd h.4
 IsGrown-kept (o ∷ p ∷ old) (n ∷ []) h grown = absurd h.4
 
-sized-kept : (size : ℕ) (old new : List Row) → KeepsTree old new → AllByRecursion (λ (row : Row). length row.states ≡ size) old → AllByRecursion (λ (row : Row). length row.states ≡ size) new
+pub sized-kept : (size : ℕ) (old new : List Row) → KeepsTree old new → AllByRecursion (λ (row : Row). length row.states ≡ size) old → AllByRecursion (λ (row : Row). length row.states ≡ size) new
 sized-kept size [] [] h all = tt
 sized-kept size (o ∷ old) (n ∷ new) h all = (h.3 ∙ all.0, sized-kept size old new h.4 all.1)
 sized-kept size [] (n ∷ new) h all = absurd h
@@ -157,7 +165,7 @@ HasTag-unguarded rows u t = HasTag-kept rows (unguarded rows u) t (unguarded-kee
 pub IsRows-root : (tag size : ℕ) (made : Span) → IsRows size (root_row tag size made ∷ [])
 IsRows-root tag size made = record { grown = refl; sized = (length-replicate size _, tt) }
 
-AllByRecursion-reverse_aux : (P : Row → Type 0) (xs ys : List Row) → AllByRecursion P xs → AllByRecursion P ys → AllByRecursion P (reverse_aux xs ys)
+pub AllByRecursion-reverse_aux : (P : Row → Type 0) (xs ys : List Row) → AllByRecursion P xs → AllByRecursion P ys → AllByRecursion P (reverse_aux xs ys)
 AllByRecursion-reverse_aux P [] ys all more = more
 AllByRecursion-reverse_aux P (x ∷ xs) ys all more = AllByRecursion-reverse_aux P xs (x ∷ ys) all.1 (all.0, more)
 
@@ -167,23 +175,20 @@ or_moved true false c = refl
 or_moved false true c = refl
 or_moved false false c = refl
 
-list_any-reverse_aux : (p : Row → Bool) (xs ys : List Row) → list_any p (reverse_aux xs ys) ≡ (list_any p xs || list_any p ys)
+pub list_any-reverse_aux : (p : Row → Bool) (xs ys : List Row) → list_any p (reverse_aux xs ys) ≡ (list_any p xs || list_any p ys)
 list_any-reverse_aux p [] ys = refl
 list_any-reverse_aux p (x ∷ xs) ys = list_any-reverse_aux p xs (x ∷ ys) ∙ or_moved (p x) (list_any p xs) (list_any p ys)
 
-or_true : (a b : Bool) → a ≡ true → (a || b) ≡ true
-or_true a b h = rw h refl
-
 -- the order in which the rows are read tells the same of their tags
 pub HasTag-reverse : (rows : List Row) (t : ℕ) → HasTag rows t → HasTag (reverse rows) t
-HasTag-reverse rows t has = list_any-reverse_aux (is_tag t) rows [] ∙ or_true _ _ has
+HasTag-reverse rows t has = list_any-reverse_aux (is_tag t) rows [] ∙ or_left _ _ has
 
 -- a row may come next
 pub IsGrown-next : (older : List Row) (row : Row) → IsNext older row → IsGrown older → IsGrown (row ∷ older)
 IsGrown-next [] row next grown = absurd grown
 IsGrown-next (p ∷ older) row next grown = (next, grown)
 
-AllByRecursion-append : (P : Row → Type 0) (xs ys : List Row) → AllByRecursion P xs → AllByRecursion P ys → AllByRecursion P (xs ++ ys)
+pub AllByRecursion-append : (P : Row → Type 0) (xs ys : List Row) → AllByRecursion P xs → AllByRecursion P ys → AllByRecursion P (xs ++ ys)
 AllByRecursion-append P [] ys all more = more
 AllByRecursion-append P (x ∷ xs) ys all more = (all.0, AllByRecursion-append P xs ys all.1 more)
 
@@ -216,7 +221,7 @@ IsRows-reborrowed size rows new is has above =
 -- after a reborrow the earlier tags are there, and the new one
 pub HasTag-reborrowed : (size : ℕ) (rows : List Row) (new : NewTag) (t : ℕ) → HasTag rows t → HasTag (reborrowed rows size new) t
 HasTag-reborrowed size rows new t has =
-    list_any-append (is_tag t) (reborrowed_rows rows new) (new_row size new ∷ []) ∙ or_true _ _ (HasTag-after (reborrow_event new) rows t has)
+    list_any-append (is_tag t) (reborrowed_rows rows new) (new_row size new ∷ []) ∙ or_left _ _ (HasTag-after (reborrow_event new) rows t has)
 
 pub HasTag-made : (size : ℕ) (rows : List Row) (new : NewTag) → HasTag (reborrowed rows size new) new.tag.0
 HasTag-made size rows new = list_any-append (is_tag new.tag.0) (reborrowed_rows rows new) (new_row size new ∷ []) ∙ rw same (or_last (list_any (is_tag new.tag.0) (reborrowed_rows rows new)))

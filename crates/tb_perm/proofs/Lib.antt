@@ -3,3 +3,11 @@ pub mod Kept
 pub mod Unique
 pub mod Removed
 pub mod Roots
+pub mod Found
+pub mod Paths
+pub mod Idle
+pub mod Changed
+pub mod CallEnds
+pub mod Freed
+pub mod PathTags
+pub mod Reported

@@ -1,7 +1,7 @@
 -- Covers is the order of the permissions.
 use Rattle.std.proofs.Common.{◌≡◌, ◌≤◌, ◌↔◌, ◌||◌, ◌&&◌, ℕ, Bool, true, false, not, arith, refl, IsTrue}
 use Rattle.std.proofs.Math.Dec.{leb, leb-zero}
-use Rattle.std.proofs.lemmas.Bool.{leb-true, le-leb}
+use Rattle.std.proofs.lemmas.Bool.{leb-true, le-leb, and_parts}
 use Rattle.std.specs.Prelude.{Result, Ok, Err, is_err}
 use Rattle.tb_perm.specs.declared.perm.Perm.{Perm}
 use Rattle.tb_perm.specs.declared.perm.Perm.TheVariants.{Cell, Reserved, Conflicted, ReservedIm, Active, Frozen, Disabled}
@@ -16,14 +16,6 @@ use Rattle.tb_perm.specs.Covers.{Covers, Keeps, HoldsAfter, moved, order_of}
 -- the order as a test
 abbrev is_below : Perm → Perm → Bool → Bool
 is_below p c guarded = leb (order_of p) (order_of c)
-
-and_left : (a b : Bool) → (a && b) ≡ true → a ≡ true
-and_left true b h = refl
-and_left false b h = h
-
-and_right : (a b : Bool) → (a && b) ≡ true → b ≡ true
-and_right true b h = h
-and_right false b h = cc
 
 then_so : (a b : Bool) → (not a || b) ≡ true → a ≡ true → b ≡ true
 then_so true b h holds = h
@@ -42,18 +34,14 @@ kinds f = f Read && f Write
 abbrev rels : (Rel → Bool) → Bool
 rels f = f Local && f Foreign
 
--- each part of a conjunction
-both_parts : (a b : Bool) → (a && b) ≡ true → (a ≡ true) × (b ≡ true)
-both_parts a b h = (and_left a b h, and_right a b h)
-
 all_parts : (a b c d e f g : Bool) → (a && (b && (c && (d && (e && (f && g)))))) ≡ true → (a ≡ true) × (b ≡ true) × (c ≡ true) × (d ≡ true) × (e ≡ true) × (f ≡ true) × (g ≡ true)
 all_parts a b c d e f g h =
-    let h1 = both_parts a (b && (c && (d && (e && (f && g))))) h in
-    let h2 = both_parts b (c && (d && (e && (f && g)))) h1.1 in
-    let h3 = both_parts c (d && (e && (f && g))) h2.1 in
-    let h4 = both_parts d (e && (f && g)) h3.1 in
-    let h5 = both_parts e (f && g) h4.1 in
-    let h6 = both_parts f g h5.1 in (
+    let h1 = and_parts a (b && (c && (d && (e && (f && g))))) h in
+    let h2 = and_parts b (c && (d && (e && (f && g)))) h1.1 in
+    let h3 = and_parts c (d && (e && (f && g))) h2.1 in
+    let h4 = and_parts d (e && (f && g)) h3.1 in
+    let h5 = and_parts e (f && g) h4.1 in
+    let h6 = and_parts f g h5.1 in (
       h1.0,
       h2.0,
       h3.0,
@@ -76,16 +64,16 @@ every_at f h Frozen = (every_parts f h).5
 every_at f h Disabled = (every_parts f h).6
 
 both_at : (f : Bool → Bool) → both f ≡ true → (b : Bool) → f b ≡ true
-both_at f h false = and_left (f false) (f true) h
-both_at f h true = and_right (f false) (f true) h
+both_at f h false = (and_parts (f false) (f true) h).0
+both_at f h true = (and_parts (f false) (f true) h).1
 
 kinds_at : (f : Kind → Bool) → kinds f ≡ true → (k : Kind) → f k ≡ true
-kinds_at f h Read = and_left (f Read) (f Write) h
-kinds_at f h Write = and_right (f Read) (f Write) h
+kinds_at f h Read = (and_parts (f Read) (f Write) h).0
+kinds_at f h Write = (and_parts (f Read) (f Write) h).1
 
 rels_at : (f : Rel → Bool) → rels f ≡ true → (r : Rel) → f r ≡ true
-rels_at f h Local = and_left (f Local) (f Foreign) h
-rels_at f h Foreign = and_right (f Local) (f Foreign) h
+rels_at f h Local = (and_parts (f Local) (f Foreign) h).0
+rels_at f h Foreign = (and_parts (f Local) (f Foreign) h).1
 
 -- the first condition of the order, at one pair
 abbrev refuses_test : Perm → Perm → Bool → Kind → Bool

@@ -2,28 +2,25 @@
 use Rattle.std.proofs.Common.{◌≡◌, ◌∙◌, ◌≢◌, ◌⊎◌, ◌||◌, ℕ, ◌<◌, Bool, true, false, cond, not, List, [], ◌∷◌, length, map, filter, reverse, refl, ap, sym, subst, arith, Option, Some, None, find, ◌==◌, inl, inr}
 use Rattle.std.specs.Prelude.{option_and_then}
 use Rattle.std.specs.List.{list_any, AllByRecursion}
-use Rattle.std.proofs.lemmas.Bool.{eqb-true, eq-eqb, cases_eq, false_from_ne_true}
+use Rattle.std.proofs.lemmas.Bool.{eqb-true, eq-eqb, cases_eq, ne_eqb, or_right}
 use mathlib.Core.List.{reverse_aux}
 use Rattle.tb_perm.specs.Rows.{Row, is_tag, HasTag, IsNext, IsGrown, IsRows}
 use Rattle.tb_perm.specs.Pruning.{parent_in, is_child, moved_up_row, removed}
 use Rattle.tb_perm.proofs.Kept.{IsGrown-next, HasTag-reverse}
 use Rattle.tb_perm.proofs.Unique.{AreRising-rows, find_self, AllByRecursion-reverse}
 
-unlike : (a b : ℕ) → a ≢ b → (a == b) ≡ false
-unlike a b differs = false_from_ne_true _ (λ same. differs (eqb-true a b same))
-
 -- rows in any order without a tag, whose children get another parent
-abbrev cut : ℕ → Option ℕ → List Row → List Row
+abbrev pub cut : ℕ → Option ℕ → List Row → List Row
 cut t parent rows = map (moved_up_row t parent) (filter (λ row. not (is_tag t row)) rows)
 
-tag_up : (t : ℕ) (parent : Option ℕ) (row : Row) → (moved_up_row t parent row).tag ≡ row.tag
+pub tag_up : (t : ℕ) (parent : Option ℕ) (row : Row) → (moved_up_row t parent row).tag ≡ row.tag
 tag_up t parent row = at (is_child t row.parent)
   where
     at : (b : Bool) → (cond b (record row { parent = parent }) row).tag ≡ row.tag
     at true = refl
     at false = refl
 
-states_up : (t : ℕ) (parent : Option ℕ) (row : Row) → length (moved_up_row t parent row).states ≡ length row.states
+pub states_up : (t : ℕ) (parent : Option ℕ) (row : Row) → length (moved_up_row t parent row).states ≡ length row.states
 states_up t parent row = at (is_child t row.parent)
   where
     at : (b : Bool) → length (cond b (record row { parent = parent }) row).states ≡ length row.states
@@ -48,7 +45,7 @@ sized_cut size t parent (row ∷ rows) all = at (is_tag t row) (sized_cut size t
     at false later = (states_up t parent row ∙ all.0, later)
 
 -- the other tags are left
-HasTag_cut : (t u : ℕ) (parent : Option ℕ) (rows : List Row) → t ≢ u → HasTag rows u → HasTag (cut t parent rows) u
+pub HasTag_cut : (t u : ℕ) (parent : Option ℕ) (rows : List Row) → t ≢ u → HasTag rows u → HasTag (cut t parent rows) u
 HasTag_cut t u parent [] differs has = has
 HasTag_cut t u parent (row ∷ rows) differs has = at (is_tag t row) refl (HasTag_cut t u parent rows differs) (is_tag u row) refl has
   where
@@ -58,7 +55,7 @@ HasTag_cut t u parent (row ∷ rows) differs has = at (is_tag t row) refl (HasTa
     at false is later true same has = ap (λ k. (k == u) || list_any (is_tag u) (cut t parent rows)) (tag_up t parent row) ∙ ap (λ b. b || list_any (is_tag u) (cut t parent rows)) same
     at false is later false same has = ap (λ k. (k == u) || list_any (is_tag u) (cut t parent rows)) (tag_up t parent row) ∙ ap (λ b. b || list_any (is_tag u) (cut t parent rows)) same ∙ later has
 
-below_tag : (t u : ℕ) (rows : List Row) → AllByRecursion (λ (o : Row). o.tag < t) rows → HasTag rows u → u < t
+pub below_tag : (t u : ℕ) (rows : List Row) → AllByRecursion (λ (o : Row). o.tag < t) rows → HasTag rows u → u < t
 below_tag t u [] all has = absurd (cc)
 below_tag t u (row ∷ rows) all has = at (is_tag u row) refl has (below_tag t u rows all.1)
   where
@@ -70,14 +67,14 @@ below_tag t u (row ∷ rows) all has = at (is_tag u row) refl has (below_tag t u
 up_same : (t : ℕ) (parent : Option ℕ) (row : Row) → is_child t row.parent ≡ false → moved_up_row t parent row ≡ row
 up_same t parent row is = ap (λ b. cond {A = Row} b (record row { parent = parent }) row) is
 
-cut_same : (t : ℕ) (parent : Option ℕ) (rows : List Row) → IsGrown rows → AllByRecursion (λ (o : Row). o.tag < t) rows → cut t parent rows ≡ rows
+pub cut_same : (t : ℕ) (parent : Option ℕ) (rows : List Row) → IsGrown rows → AllByRecursion (λ (o : Row). o.tag < t) rows → cut t parent rows ≡ rows
 cut_same t parent [] grown all = refl
 cut_same t parent (row ∷ []) grown all =
-    ap (λ b. map (moved_up_row t parent) (cond (not b) (row ∷ []) [])) (unlike row.tag t (omega (arith, all.0)))
+    ap (λ b. map (moved_up_row t parent) (cond (not b) (row ∷ []) [])) (ne_eqb row.tag t (omega (arith, all.0)))
     ∙ ap (λ x. x ∷ []) (up_same t parent row (ap (is_child t) grown))
 cut_same t parent (row ∷ next ∷ older) grown all =
-    ap (λ b. map (moved_up_row t parent) (cond (not b) (row ∷ filter (λ x. not (is_tag t x)) (next ∷ older)) (filter (λ x. not (is_tag t x)) (next ∷ older)))) (unlike row.tag t (omega (arith, all.0)))
-    ∙ ap (λ x. x ∷ cut t parent (next ∷ older)) (up_same t parent row (ap (is_child t) grown.0.is_parent ∙ unlike grown.0.parent t (omega (arith, below_tag t grown.0.parent (next ∷ older) all.1 grown.0.has_parent))))
+    ap (λ b. map (moved_up_row t parent) (cond (not b) (row ∷ filter (λ x. not (is_tag t x)) (next ∷ older)) (filter (λ x. not (is_tag t x)) (next ∷ older)))) (ne_eqb row.tag t (omega (arith, all.0)))
+    ∙ ap (λ x. x ∷ cut t parent (next ∷ older)) (up_same t parent row (ap (is_child t) grown.0.is_parent ∙ ne_eqb grown.0.parent t (omega (arith, below_tag t grown.0.parent (next ∷ older) all.1 grown.0.has_parent))))
     ∙ ap (λ xs. row ∷ xs) (cut_same t parent (next ∷ older) grown.1 all.1)
 
 -- the parent of a row is older
@@ -90,10 +87,6 @@ parent_older (row ∷ []) t p r grown found up = at (is_tag t row) found
     at false found = cc
 parent_older (row ∷ next ∷ older) t p r grown found up = at (is_tag t row) refl found (parent_older (next ∷ older) t p r grown.1)
   where
-    or_later : (b c : Bool) → c ≡ true → (b || c) ≡ true
-    or_later true c h = refl
-    or_later false c h = h
-
     at : (b : Bool) → is_tag t row ≡ b → cond b (Some row) (find (is_tag t) (next ∷ older)) ≡ Some r → (find (is_tag t) (next ∷ older) ≡ Some r → r.parent ≡ Some p → HasTag (next ∷ older) p × (p < t)) → HasTag (row ∷ next ∷ older) p × (p < t)
     at true is found later =
         let one : row ≡ r = cc in
@@ -101,8 +94,8 @@ parent_older (row ∷ next ∷ older) t p r grown found up = at (is_tag t row) r
         let same : p ≡ grown.0.parent = cc in
         let has : HasTag (next ∷ older) p = subst (HasTag (next ∷ older)) (sym same) grown.0.has_parent in
         let tag : row.tag ≡ t = eqb-true row.tag t is in
-        (or_later (is_tag p row) _ has, omega (arith, below_tag row.tag p (next ∷ older) grown.0.above has, tag))
-    at false is found later = let rest = later found up in (or_later (is_tag p row) _ rest.0, rest.1)
+        (or_right (is_tag p row) _ has, omega (arith, below_tag row.tag p (next ∷ older) grown.0.above has, tag))
+    at false is found later = let rest = later found up in (or_right (is_tag p row) _ rest.0, rest.1)
 
 IsGrown_cut : (t p : ℕ) (r : Row) (rows : List Row) → IsGrown rows → find (is_tag t) rows ≡ Some r → r.parent ≡ Some p → IsGrown (cut t (Some p) rows)
 IsGrown_cut t p r [] grown found up = absurd grown
@@ -128,7 +121,7 @@ IsGrown_cut t p r (row ∷ next ∷ older) grown found up = at (is_tag t row) re
         let child : is_child t row.parent ≡ true = ap (is_child t) grown.0.is_parent ∙ eq-eqb grown.0.parent t (sym same) in
         next_cut p (λ equal. absurd (omega (arith, rest.1, equal))) (ap (λ b. (cond {A = Row} b (record row { parent = Some p }) row).parent) child) rest.0
     is_next found (inr differs) =
-        let child : is_child t row.parent ≡ false = ap (is_child t) grown.0.is_parent ∙ unlike grown.0.parent t (λ same. differs (sym same)) in
+        let child : is_child t row.parent ≡ false = ap (is_child t) grown.0.is_parent ∙ ne_eqb grown.0.parent t (λ same. differs (sym same)) in
         next_cut grown.0.parent differs (ap (λ (x : Row). x.parent) (up_same t (Some p) row child) ∙ grown.0.is_parent) grown.0.has_parent
 
     at : (b : Bool) → is_tag t row ≡ b → cond b (Some row) (find (is_tag t) (next ∷ older)) ≡ Some r → (find (is_tag t) (next ∷ older) ≡ Some r → r.parent ≡ Some p → IsGrown (cut t (Some p) (next ∷ older))) → IsGrown (map (moved_up_row t (Some p)) (cond (not b) (row ∷ filter (λ x. not (is_tag t x)) (next ∷ older)) (filter (λ x. not (is_tag t x)) (next ∷ older))))

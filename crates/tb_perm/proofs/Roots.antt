@@ -6,7 +6,7 @@ use Rattle.std.proofs.lemmas.Bool.{eqb-true}
 use mathlib.Core.List.{reverse_aux}
 use Rattle.tb_perm.specs.Rows.{Row, is_tag, HasTag, IsGrown, IsRows}
 use Rattle.tb_perm.specs.Pruning.{parent_in}
-use Rattle.tb_perm.proofs.Kept.{HasTag-reverse}
+use Rattle.tb_perm.proofs.Kept.{HasTag-reverse, list_any-reverse_aux}
 use Rattle.tb_perm.proofs.Unique.{AreRising-rows, find_self, AllByRecursion-reverse}
 use Rattle.tb_perm.proofs.Removed.{find_back, only_row, find_has, parent_older}
 
@@ -29,19 +29,19 @@ least_back t r (row ∷ next ∷ older) grown found top = at (is_tag t row) foun
         let rest = later found top in
         (omega (arith, rest.0, grown.0.above.0), rest)
 
-all_reverse : (P : Row → Type 0) (rows : List Row) → AllByRecursion P (reverse rows) → AllByRecursion P rows
+pub all_reverse : (P : Row → Type 0) (rows : List Row) → AllByRecursion P (reverse rows) → AllByRecursion P rows
 all_reverse P rows all = (walk rows [] all).0
   where
     walk : (xs ys : List Row) → AllByRecursion P (reverse_aux xs ys) → AllByRecursion P xs × AllByRecursion P ys
     walk [] ys all = (tt, all)
     walk (x ∷ xs) ys all = let rest = walk xs (x ∷ ys) all in ((rest.1.0, rest.0), rest.1.1)
 
-back : (size : ℕ) (rows : List Row) (t : ℕ) (r : Row) → IsRows size rows → find (is_tag t) rows ≡ Some r → find (is_tag t) (reverse rows) ≡ Some r
+pub back : (size : ℕ) (rows : List Row) (t : ℕ) (r : Row) → IsRows size rows → find (is_tag t) rows ≡ Some r → find (is_tag t) (reverse rows) ≡ Some r
 back size rows t r is found =
     let finds = AllByRecursion-reverse (λ (row : Row). find (is_tag row.tag) rows ≡ Some row) rows (find_self rows (AreRising-rows size rows is)) in
     find_back (reverse rows) t r (only_row rows (reverse rows) t r found finds) (HasTag-reverse rows t (find_has rows t r found))
 
-none_has : (rows : List Row) (t : ℕ) → find (is_tag t) rows ≡ None → HasTag rows t → ⊥
+pub none_has : (rows : List Row) (t : ℕ) → find (is_tag t) rows ≡ None → HasTag rows t → ⊥
 none_has [] t none has = cc
 none_has (row ∷ rows) t none has = at (is_tag t row) none has (none_has rows t)
   where
@@ -49,22 +49,12 @@ none_has (row ∷ rows) t none has = at (is_tag t row) none has (none_has rows t
     at true none has later = cc
     at false none has later = later none has
 
-or_swap : (a b c : Bool) → (b || (a || c)) ≡ ((a || b) || c)
-or_swap true true c = refl
-or_swap true false c = refl
-or_swap false true c = refl
-or_swap false false c = refl
-
-any_reverse_aux : (t : ℕ) (xs ys : List Row) → list_any (is_tag t) (reverse_aux xs ys) ≡ (list_any (is_tag t) xs || list_any (is_tag t) ys)
-any_reverse_aux t [] ys = refl
-any_reverse_aux t (x ∷ xs) ys = any_reverse_aux t xs (x ∷ ys) ∙ or_swap (is_tag t x) (list_any (is_tag t) xs) (list_any (is_tag t) ys)
-
 or_false_true : (a : Bool) → (a || false) ≡ true → a ≡ true
 or_false_true true h = refl
 or_false_true false h = h
 
-has_forward : (rows : List Row) (t : ℕ) → HasTag (reverse rows) t → HasTag rows t
-has_forward rows t has = or_false_true (list_any (is_tag t) rows) (sym (any_reverse_aux t rows []) ∙ has)
+pub has_forward : (rows : List Row) (t : ℕ) → HasTag (reverse rows) t → HasTag rows t
+has_forward rows t has = or_false_true (list_any (is_tag t) rows) (sym (list_any-reverse_aux (is_tag t) rows []) ∙ has)
 
 -- a tag of the tree without a parent is the least
 pub root_least : (size : ℕ) (rows : List Row) (t : ℕ) → IsRows size rows → HasTag rows t → parent_in rows t ≡ None → AllByRecursion (λ (row : Row). t ≤ row.tag) rows
@@ -84,7 +74,7 @@ parent_lesser size rows t p is up = at (find (is_tag t) rows) refl up
         let older = parent_older (reverse rows) t p r is.grown (back size rows t r is found) up in
         (has_forward rows p older.0, older.1)
 
-lesser_clash : (rows : List Row) (t u : ℕ) → AllByRecursion (λ (row : Row). t ≤ row.tag) rows → HasTag rows u → u < t → ⊥
+pub lesser_clash : (rows : List Row) (t u : ℕ) → AllByRecursion (λ (row : Row). t ≤ row.tag) rows → HasTag rows u → u < t → ⊥
 lesser_clash [] t u all has less = cc
 lesser_clash (row ∷ rows) t u all has less = at (is_tag u row) refl has (lesser_clash rows t u all.1)
   where

@@ -1,9 +1,10 @@
 -- Each tag has one row.
-use Rattle.std.proofs.Common.{◌≡◌, ◌∙◌, ◌≢◌, ℕ, ◌<◌, Bool, true, false, cond, List, [], ◌∷◌, reverse, refl, ap, arith, Option, Some, find, ◌==◌}
+use Rattle.std.proofs.Common.{◌≡◌, ◌∙◌, ℕ, ◌<◌, Bool, true, false, cond, List, [], ◌∷◌, reverse, refl, ap, arith, Option, Some, find}
 use Rattle.std.specs.List.{AllByRecursion}
-use Rattle.std.proofs.lemmas.Bool.{eq-eqb, eqb-true, false_from_ne_true}
+use Rattle.std.proofs.lemmas.Bool.{eq-eqb, ne_eqb}
 use mathlib.Core.List.{reverse_aux}
-use Rattle.tb_perm.specs.Rows.{Row, is_tag, is_asked, IsGrown, IsRows, way, way_back}
+use Rattle.tb_perm.proofs.Kept.{AllByRecursion-reverse_aux}
+use Rattle.tb_perm.specs.Rows.{Row, is_tag, is_asked, IsGrown, IsRows, path_to_root, path_from}
 
 -- each tag is below those after it
 abbrev pub AreRising : List Row → Type 0
@@ -40,13 +41,10 @@ AreRising-rows size (row ∷ rows) is =
     let rest = rises_to rows row [] is.grown in
     (heads row [] rows rest.above, rest.rising)
 
-unlike : (a b : ℕ) → a ≢ b → (a == b) ≡ false
-unlike a b differs = false_from_ne_true _ (λ same. differs (eqb-true a b same))
-
 later_found : (x : Row) (xs zs : List Row) → AllByRecursion (λ (z : Row). x.tag < z.tag) zs → AllByRecursion (λ (z : Row). find (is_tag z.tag) xs ≡ Some z) zs → AllByRecursion (λ (z : Row). find (is_tag z.tag) (x ∷ xs) ≡ Some z) zs
 later_found x xs [] above all = tt
 later_found x xs (z ∷ zs) above all =
-    (ap (λ b. cond b (Some x) (find (is_tag z.tag) xs)) (unlike x.tag z.tag (omega (arith, above.0))) ∙ all.0, later_found x xs zs above.1 all.1)
+    (ap (λ b. cond b (Some x) (find (is_tag z.tag) xs)) (ne_eqb x.tag z.tag (omega (arith, above.0))) ∙ all.0, later_found x xs zs above.1 all.1)
 
 -- a search for a row's tag finds the row
 pub find_self : (rows : List Row) → AreRising rows → AllByRecursion (λ (row : Row). find (is_tag row.tag) rows ≡ Some row) rows
@@ -54,21 +52,17 @@ find_self [] rising = tt
 find_self (x ∷ xs) rising =
     (ap (λ b. cond b (Some x) (find (is_tag x.tag) xs)) (eq-eqb x.tag x.tag refl), later_found x xs xs rising.0 (find_self xs rising.1))
 
-pub AllByRecursion-way_back : (P : Row → Type 0) (rows : List Row) (asked : Option ℕ) → AllByRecursion P rows → AllByRecursion P (way_back rows asked)
-AllByRecursion-way_back P [] asked all = tt
-AllByRecursion-way_back P (row ∷ rows) asked all = at (is_asked asked row) (AllByRecursion-way_back P rows row.parent all.1) (AllByRecursion-way_back P rows asked all.1)
+pub AllByRecursion-path_from : (P : Row → Type 0) (rows : List Row) (asked : Option ℕ) → AllByRecursion P rows → AllByRecursion P (path_from rows asked)
+AllByRecursion-path_from P [] asked all = tt
+AllByRecursion-path_from P (row ∷ rows) asked all = at (is_asked asked row) (AllByRecursion-path_from P rows row.parent all.1) (AllByRecursion-path_from P rows asked all.1)
   where
-    at : (b : Bool) → AllByRecursion P (way_back rows row.parent) → AllByRecursion P (way_back rows asked) → AllByRecursion P (cond b (row ∷ way_back rows row.parent) (way_back rows asked))
+    at : (b : Bool) → AllByRecursion P (path_from rows row.parent) → AllByRecursion P (path_from rows asked) → AllByRecursion P (cond b (row ∷ path_from rows row.parent) (path_from rows asked))
     at true up on = (all.0, up)
     at false up on = on
-
-AllByRecursion-reverse_aux : (P : Row → Type 0) (xs ys : List Row) → AllByRecursion P xs → AllByRecursion P ys → AllByRecursion P (reverse_aux xs ys)
-AllByRecursion-reverse_aux P [] ys all more = more
-AllByRecursion-reverse_aux P (x ∷ xs) ys all more = AllByRecursion-reverse_aux P xs (x ∷ ys) all.1 (all.0, more)
 
 pub AllByRecursion-reverse : (P : Row → Type 0) (rows : List Row) → AllByRecursion P rows → AllByRecursion P (reverse rows)
 AllByRecursion-reverse P rows all = AllByRecursion-reverse_aux P rows [] all tt
 
--- what holds of all rows holds of those on a way
-pub AllByRecursion-way : (P : Row → Type 0) (rows : List Row) (t : ℕ) → AllByRecursion P rows → AllByRecursion P (way rows t)
-AllByRecursion-way P rows t all = AllByRecursion-way_back P (reverse rows) (Some t) (AllByRecursion-reverse P rows all)
+-- what holds of all rows holds of those on a path
+pub AllByRecursion-path_to_root : (P : Row → Type 0) (rows : List Row) (t : ℕ) → AllByRecursion P rows → AllByRecursion P (path_to_root rows t)
+AllByRecursion-path_to_root P rows t all = AllByRecursion-path_from P (reverse rows) (Some t) (AllByRecursion-reverse P rows all)

@@ -5,7 +5,7 @@ use Rattle.std.specs.Option.{option_or}
 use Rattle.tb_perm.specs.declared.report.Access.{Access}
 use Rattle.tb_perm.specs.declared.report.Report.{Report}
 use Rattle.tb_perm.specs.declared.report.Refusal.{Refusal}
-use Rattle.tb_perm.specs.Rows.{Row, way, state_at}
+use Rattle.tb_perm.specs.Rows.{Row, path_to_root, state_at}
 
 -- the row refuses at the byte
 abbrev pub refuses : (Row → ℕ → Option Refusal) → ℕ → Row → Bool
@@ -15,10 +15,10 @@ refuses refusal byte row = is_some (refusal row byte)
 abbrev pub refused_byte : (Row → ℕ → Option Refusal) → ℕ → List Row → Option ℕ
 refused_byte refusal size rows = find (λ byte. list_any (refuses refusal byte) rows) (range_with_len 0 size)
 
--- at that byte, the nearest tag on the way to the root that refuses, or else the least tag that does
+-- at that byte, the nearest tag on the path to the root that refuses, or else the least tag that does
 abbrev pub refusing_row : (Row → ℕ → Option Refusal) → List Row → ℕ → ℕ → Option Row
 refusing_row refusal rows through byte =
-    option_or (find (refuses refusal byte) (way rows through)) (find (refuses refusal byte) rows)
+    option_or (find (refuses refusal byte) (path_to_root rows through)) (find (refuses refusal byte) rows)
 
 -- the report on a row that refuses, with its permission before the event
 abbrev pub report_on : Access → ℕ → ℕ → Row → Refusal → Report

@@ -7,7 +7,7 @@ use Rattle.tb_perm.specs.declared.perm.Rel.{Rel}
 use Rattle.tb_perm.specs.declared.perm.Rel.TheVariants.{Local, Foreign}
 use Rattle.tb_perm.specs.declared.report.Refusal.{Refusal}
 use Rattle.tb_perm.specs.Table.{step_of, is_guarded}
-use Rattle.tb_perm.specs.Rows.{Row, is_on_way, state_at}
+use Rattle.tb_perm.specs.Rows.{Row, is_on_path, state_at}
 
 -- the tag that the event goes through, and the kind of access that a tag meets at a byte, if any
 pub record Event : Type 0 where
@@ -20,7 +20,7 @@ is_within lo hi byte = nat_le lo byte && nat_lt byte hi
 
 -- local for the tag that the event goes through and its ancestors, foreign for all others
 abbrev pub rel_of : List Row → Event → Row → Rel
-rel_of rows event row = cond (is_on_way rows event.through row.tag) Local Foreign
+rel_of rows event row = cond (is_on_path rows event.through row.tag) Local Foreign
 
 -- the state afterwards: the table's, and the same where nothing is met or the table refuses
 abbrev pub state_after : Result State Refusal → State → State

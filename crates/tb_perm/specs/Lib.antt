@@ -11,4 +11,8 @@ pub mod Reborrow
 pub mod Release
 pub mod Deallocation
 pub mod Answer
+pub mod Calls
+pub mod CallEnd
 pub mod Pruning
+pub mod Codes
+pub mod OneByte

@@ -5,7 +5,13 @@ use Rattle.tb_perm.specs.declared.perm.Kind.TheVariants.{Read, Write}
 use Rattle.tb_perm.specs.declared.perm.Mark.{Mark}
 use Rattle.tb_perm.specs.declared.perm.Mark.TheVariants.{Nothing, Read as ReadMark, Write as WriteMark}
 use Rattle.tb_perm.specs.Table.{IsIdle, is_guarded}
-use Rattle.tb_perm.specs.Rows.{Row, is_on_way, state_at}
+use Rattle.tb_perm.specs.Rows.{Row, is_on_path, state_at}
+
+-- how much a mark promises
+abbrev pub level : Mark → ℕ
+level Nothing = 0
+level ReadMark = 1
+level WriteMark = 2
 
 -- a mark promises this of foreign accesses of the kind
 abbrev pub leaves_alone : Mark → Kind → Bool
@@ -18,4 +24,4 @@ leaves_alone WriteMark kind = true
 -- none of them refuses it
 abbrev pub Marked : List Row → ℕ → ℕ → Kind → Type 0
 Marked rows tag byte kind =
-    All (λ (row : Row). IsTrue (is_on_way rows row.tag tag) → IsIdle (state_at row byte) (is_guarded row.guard) kind) rows
+    All (λ (row : Row). IsTrue (is_on_path rows row.tag tag) → IsIdle (state_at row byte) (is_guarded row.guard) kind) rows

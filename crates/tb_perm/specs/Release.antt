@@ -8,7 +8,7 @@ use Rattle.tb_perm.specs.declared.perm.Kind.{Kind}
 use Rattle.tb_perm.specs.declared.perm.Kind.TheVariants.{Read, Write}
 use Rattle.tb_perm.specs.declared.report.Access.TheVariants.{CallEnd as OfCallEnd}
 use Rattle.tb_perm.specs.declared.report.Report.{Report}
-use Rattle.tb_perm.specs.Rows.{Row, is_on_way, is_tag, state_at}
+use Rattle.tb_perm.specs.Rows.{Row, is_on_path, is_tag, state_at}
 use Rattle.tb_perm.specs.Event.{Event, after, refusal_at}
 use Rattle.tb_perm.specs.Choice.{report_of}
 
@@ -31,7 +31,7 @@ released_at rows t byte = option_and_then (λ row. released_kind (state_at row b
 
 -- the second tag is a strict descendant of the first
 abbrev pub is_below : List Row → ℕ → ℕ → Bool
-is_below rows t u = not (u == t) && is_on_way rows u t
+is_below rows t u = not (u == t) && is_on_path rows u t
 
 abbrev pub release_event : List Row → ℕ → Event
 release_event rows t = record { through = t; meets = λ u byte. cond (is_below rows t u) None (released_at rows t byte) }

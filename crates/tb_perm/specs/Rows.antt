@@ -1,7 +1,7 @@
 -- The rows of an allocation: its tags in the order of their making, which is that of their numbers,
 -- each with one state for every byte. The first row is the root's. Every other tag has its parent
 -- in an earlier row, so the rows are a tree.
-use Rattle.std.specs.Prelude.{◌≡◌, ℕ, ◌<◌, Bool, false, cond, List, [], ◌∷◌, length, reverse, map, Option, Some, None, IsTrue, replicate, slice_index_or, ◌==◌, true}
+use Rattle.std.specs.Prelude.{◌≡◌, ℕ, ◌<◌, Bool, false, cond, List, [], ◌∷◌, length, reverse, map, Option, Some, None, IsTrue, replicate, slice_index_or, ◌==◌, true, find, option_map, unwrap_or}
 use Rattle.std.specs.List.{list_any, AllByRecursion}
 use Rattle.tb_perm.specs.declared.span.Span.{Span}
 use Rattle.tb_perm.specs.declared.perm.State.{State}
@@ -21,6 +21,10 @@ pub record Row : Type 0 where
 abbrev pub is_tag : ℕ → Row → Bool
 is_tag t row = row.tag == t
 
+-- the tags of rows, in their order
+abbrev pub tags : List Row → List ℕ
+tags rows = map (λ (row : Row). row.tag) rows
+
 -- the tag has a row
 abbrev pub HasTag : List Row → ℕ → Type 0
 HasTag rows t = IsTrue (list_any (is_tag t) rows)
@@ -30,19 +34,19 @@ abbrev pub is_asked : Option ℕ → Row → Bool
 is_asked None row = false
 is_asked (Some t) row = row.tag == t
 
--- the way from a tag to the root in rows that are read from the newest back: a parent is older
+-- the path from a tag to the root in rows that are read from the newest back: a parent is older
 -- than its children
-abbrev pub way_back : List Row → Option ℕ → List Row
-way_back [] asked = []
-way_back (row ∷ older) asked = cond (is_asked asked row) (row ∷ way_back older row.parent) (way_back older asked)
+abbrev pub path_from : List Row → Option ℕ → List Row
+path_from [] asked = []
+path_from (row ∷ older) asked = cond (is_asked asked row) (row ∷ path_from older row.parent) (path_from older asked)
 
--- the rows on the way from a tag, its own first, to the root
-abbrev pub way : List Row → ℕ → List Row
-way rows t = way_back (reverse rows) (Some t)
+-- the rows on the path from a tag, its own first, to the root
+abbrev pub path_to_root : List Row → ℕ → List Row
+path_to_root rows t = path_from (reverse rows) (Some t)
 
 -- the second tag is the first or one of its ancestors
-abbrev pub is_on_way : List Row → ℕ → ℕ → Bool
-is_on_way rows t u = list_any (is_tag u) (way rows t)
+abbrev pub is_on_path : List Row → ℕ → ℕ → Bool
+is_on_path rows t u = list_any (is_tag u) (path_to_root rows t)
 
 -- a tag's state at a byte; past the last byte, where no event looks, Disabled
 abbrev pub state_at : Row → ℕ → State
@@ -62,6 +66,10 @@ root_row tag size made =
 -- the row with its guard gone, if it is the tag's
 abbrev pub unguarded_row : ℕ → Row → Row
 unguarded_row t row = cond (is_tag t row) (record row { guard = Free }) row
+
+-- how a tag is guarded; a tag that has no row is free
+abbrev pub guard_in : List Row → ℕ → Guard
+guard_in rows t = unwrap_or (option_map (λ (row : Row). row.guard) (find (is_tag t) rows)) Free
 
 -- the rows once the tag's guard is gone
 abbrev pub unguarded : List Row → ℕ → List Row

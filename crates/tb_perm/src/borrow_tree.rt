@@ -4,26 +4,24 @@ use crate::report::TreeError;
 use crate::span::Span;
 use crate::steps::Steps;
 use crate::tag::Tag;
-use std::alloc::Global;
+use std::alloc::{AllocError, Global};
 use std::sync::ledger::Ledger;
-
-/// There was no memory.
-#[derive(Clone, Copy, Debug, PartialEq, Eq)]
-pub struct Memory;
 
 /// The tags of one allocation and their states, which the events of the borrow model move.
 ///
 /// In each call the tag that is named has a row. A call that a tag refuses changes nothing. After
-/// want of memory each byte's state of every earlier tag is the old or the new one, and the tree is
+/// running out of memory each byte's state of every earlier tag is the old or the new one, and the tree is
 /// good to be dropped.
 pub trait BorrowTree: Drop {
-    ghost use Rattle.std.specs.Prelude.{◌≡◌, ℕ, ◌≤◌, ◌<◌, List, [], ◌∷◌, OnOk, IfOk, All};
-    ghost use Rattle.tb_perm.specs.Rows.{Row, HasTag, IsRows, root_row, unguarded};
+    ghost use Rattle.std.specs.Prelude.{◌≡◌, ℕ, ◌≤◌, ◌<◌, List, [], ◌∷◌, OnOk, IfOk, All, false};
+    ghost use Rattle.tb_perm.specs.Rows.{Row, HasTag, root_row, unguarded};
     ghost use Rattle.tb_perm.specs.Answer.{Answers, OnBorrow, OnMemory, Between, BetweenOrMade};
+    ghost use Rattle.tb_perm.specs.Calls.{IsTree, Continues};
     ghost use Rattle.tb_perm.specs.Access.{accessed, access_report};
     ghost use Rattle.tb_perm.specs.Reborrow.{AreCells, reborrowed, reborrowed_rows, reborrow_report, new_row};
     ghost use Rattle.tb_perm.specs.Release.{released, release_report};
     ghost use Rattle.tb_perm.specs.Deallocation.{deallocated, dealloc_report};
+    ghost use Rattle.tb_perm.specs.Pruning.{is_noted};
 
     /// The rows of its tags.
     ghost rows: { Self → List Row };
@@ -31,15 +29,15 @@ pub trait BorrowTree: Drop {
     /// How many bytes the allocation has.
     ghost extent: { Self → ℕ };
 
-    /// The tags that are noted for the next pruning.
+    /// The tags that are noted for the next pruning. Each of them has a row.
     ghost notes: { Self → List ℕ };
 
     /// The tree of a new allocation: its root alone, Active and accessed at every byte.
-    fn root(alloc: Global, size: u32, tag: Tag, made: Span) -> Result<Self, Memory>
+    fn root(alloc: Global, size: u32, tag: Tag, made: Span) -> Result<Self, AllocError>
         ensures rows { IfOk result (λ tree. rows tree ≡ root_row tag.0 size made ∷ []) }
         ensures extent { IfOk result (λ tree. extent tree ≡ size) }
         ensures notes { IfOk result (λ tree. notes tree ≡ []) }
-        ensures sound { IfOk result (λ tree. IsRows (extent tree) (rows tree)) };
+        ensures sound { IfOk result (λ tree. IsTree (extent tree) (rows tree) (notes tree)) };
 
     /// An access through the tag to the bytes from `lo` on, and up to before `hi`: every tag moves
     /// at each of these bytes by the permission table, or the access is refused.
@@ -60,13 +58,11 @@ pub trait BorrowTree: Drop {
         ensures refused { OnBorrow result (rows self.new ≡ rows self.old) }
         ensures torn { OnMemory result (Between (rows self.old) (accessed (rows self.old) tag.0 lo hi kind) (rows self.new)) }
 
-        ensures extent { extent self.new ≡ extent self.old }
-        ensures notes { notes self.new ≡ notes self.old }
-        ensures sound { IsRows (extent self.new) (rows self.new) }
+        ensures continues { Continues rows extent notes self.old self.new }
         ensures counted { steps.old ≤ steps.new };
 
     /// A reborrow: a read through the parent at the bytes of the range that are not Cell, and then
-    /// the new tag's row. The new tag is above all tags of the tree.
+    /// the new tag's row. The new tag is above all tags of the tree, and is not noted.
     fn retag<L: Ledger>(&mut self, new: NewTag, steps: &mut Steps<L>) -> Result<(), TreeError>
         requires parent { HasTag (rows self.old) new.parent.0 }
         requires above { All (λ (row : Row). row.tag < new.tag.0) (rows self.old) }
@@ -78,10 +74,9 @@ pub trait BorrowTree: Drop {
         ensures answer { Answers (reborrow_report (rows self.old) (extent self.old) new) result }
         ensures refused { OnBorrow result (rows self.new ≡ rows self.old) }
         ensures torn { OnMemory result (BetweenOrMade (rows self.old) (reborrowed_rows (rows self.old) new) (new_row (extent self.old) new) (rows self.new)) }
+        ensures fresh { OnOk result (is_noted (notes self.new) new.tag.0 ≡ false) }
 
-        ensures extent { extent self.new ≡ extent self.old }
-        ensures notes { notes self.new ≡ notes self.old }
-        ensures sound { IsRows (extent self.new) (rows self.new) }
+        ensures continues { Continues rows extent notes self.old self.new }
         ensures counted { steps.old ≤ steps.new };
 
     /// The tag's accesses at the end of the call that guards it: at each byte that it has accessed
@@ -95,18 +90,14 @@ pub trait BorrowTree: Drop {
         ensures refused { OnBorrow result (rows self.new ≡ rows self.old) }
         ensures torn { OnMemory result (Between (rows self.old) (released (rows self.old) tag.0) (rows self.new)) }
 
-        ensures extent { extent self.new ≡ extent self.old }
-        ensures notes { notes self.new ≡ notes self.old }
-        ensures sound { IsRows (extent self.new) (rows self.new) }
+        ensures continues { Continues rows extent notes self.old self.new }
         ensures counted { steps.old ≤ steps.new };
 
     /// The tag's guard becomes Free.
     fn unguard(&mut self, tag: Tag)
         requires { HasTag (rows self.old) tag.0 }
         ensures rows { rows self.new ≡ unguarded (rows self.old) tag.0 }
-        ensures extent { extent self.new ≡ extent self.old }
-        ensures notes { notes self.new ≡ notes self.old }
-        ensures sound { IsRows (extent self.new) (rows self.new) };
+        ensures continues { Continues rows extent notes self.old self.new };
 
     /// A deallocation through the tag: a write to all bytes, and then a strongly guarded tag
     /// refuses where it had accessed a byte that is not Cell.
@@ -118,8 +109,6 @@ pub trait BorrowTree: Drop {
         ensures refused { OnBorrow result (rows self.new ≡ rows self.old) }
         ensures torn { OnMemory result (Between (rows self.old) (deallocated (rows self.old) (extent self.old) tag.0) (rows self.new)) }
 
-        ensures extent { extent self.new ≡ extent self.old }
-        ensures notes { notes self.new ≡ notes self.old }
-        ensures sound { IsRows (extent self.new) (rows self.new) }
+        ensures continues { Continues rows extent notes self.old self.new }
         ensures counted { steps.old ≤ steps.new };
 }

@@ -8,23 +8,27 @@
 #![tactic(auto)]
 
 mod borrow_tree;
+mod call_end;
 mod code;
 mod covers;
 mod moves;
 mod new_tag;
 mod perm;
+mod prune_tree;
 mod report;
 mod span;
 mod steps;
 mod table;
 mod tag;
 
-pub use borrow_tree::{BorrowTree, Memory};
+pub use borrow_tree::BorrowTree;
+pub use call_end::law_call_end;
 pub use code::Code;
 pub use covers::{implies, law_covers};
 pub use moves::{step, strength};
 pub use new_tag::{CellRange, NewTag};
 pub use perm::{Guard, Kind, Mark, Perm, Rel, State};
+pub use prune_tree::PruneTree;
 pub use report::{Access, Refusal, Report, TreeError};
 pub use span::Span;
 pub use steps::Steps;

@@ -50,10 +50,40 @@ pub enum Guard {
 }
 
 /// Which foreign accesses leave a state, or the states of all tags of a subtree, as they are: none,
-/// reads, or reads and writes.
-#[derive(Clone, Copy, Debug, PartialEq, Eq)]
+/// reads, or reads and writes. A mark is greater where it promises more.
+#[derive(Clone, Copy, Debug, PartialEq, Eq, PartialOrd, Ord)]
 pub enum Mark {
     Nothing,
     Read,
     Write,
+}
+
+impl Mark {
+    ghost use Rattle.std.specs.Prelude.{◌≡◌, min, max};
+    ghost use Rattle.tb_perm.specs.Marked.{level, leaves_alone};
+
+    /// The one of two marks that promises less.
+    pub fn lesser(self, other: Mark) -> Mark
+        ensures { level result ≡ min (level self) (level other) }
+    {
+        if self <= other { self } else { other }
+    }
+
+    /// The one of two marks that promises more.
+    pub fn greater(self, other: Mark) -> Mark
+        ensures { level result ≡ max (level self) (level other) }
+    {
+        if self <= other { other } else { self }
+    }
+
+    /// Whether foreign accesses of this kind leave alone what has the mark.
+    pub fn leaves_alone(self, kind: Kind) -> bool
+        ensures { result ≡ leaves_alone self kind }
+    {
+        match self {
+            Mark::Nothing => false,
+            Mark::Read => kind == Kind::Read,
+            Mark::Write => true,
+        }
+    }
 }

@@ -2,21 +2,23 @@
 use Rattle.std.proofs.Common.{◌≡◌, ◌∙◌, ◌≢◌, ◌||◌, ◌&&◌, ℕ, zero, suc, ◌+◌, ◌<◌, Bool, true, false, not, cond, List, [], ◌∷◌, ◌++◌, take, length, map, refl, ap, sym, subst, arith, Option, Some, None, find, ◌==◌, slice_index_or, zero-add, All, filter}
 use Rattle.std.specs.Prelude.{option_map, option_and_then, IsSome}
 use Rattle.std.specs.List.{list_any, AllByRecursion, range_with_len}
-use Rattle.std.proofs.lemmas.Bool.{eqb-true, eq-eqb, false_from_ne_true}
+use Rattle.std.proofs.lemmas.Bool.{eqb-true, eq-eqb, false_from_ne_true, or_right}
 use Rattle.std.proofs.lemmas.List.Elements.{All-from_recursion, filter-append}
 use Rattle.std.proofs.lemmas.List.{take_more, map-append}
 use Rattle.tb_perm.specs.declared.perm.Kind.{Kind}
 use Rattle.tb_perm.specs.declared.perm.Perm.TheVariants.{Disabled}
-use Rattle.tb_perm.specs.Rows.{Row, is_tag, HasTag, is_on_way, state_at}
+use Rattle.tb_perm.specs.Rows.{Row, is_tag, HasTag, is_on_path, state_at}
 use Rattle.tb_perm.specs.Release.{release_event, released_kind, released_at, is_below}
 use Rattle.tb_shape.specs.Tree.{Keys, HasKey, IsPath, IsAncestor}
 use Rattle.tb_plain.specs.declared.row.PlainRow.{PlainRow}
 use Rattle.tb_plain.specs.declared.sweep.Sweep.{Sweep}
 use Rattle.tb_plain.specs.Plain.{row_in, rows_in, IsPlain}
-use Rattle.tb_plain.specs.Fits.{tags, Fits}
+use Rattle.tb_perm.specs.Rows.{tags}
+use Rattle.tb_plain.specs.Fits.{Fits}
 use Rattle.tb_plain.specs.Sweep.{is_plain, HasPlain, contains, met}
 use Rattle.tb_plain.proofs.Moves.{range_at, map_at, find_All}
-use Rattle.tb_plain.proofs.Ways.{has_key_at, any_tags, path_is, find-rows_in, ancestor_on_way, on_way_ancestor}
+use Rattle.tb_perm.proofs.PathTags.{any_tags}
+use Rattle.tb_plain.proofs.Paths.{has_key_at, path_is, find-rows_in, ancestor_on_path, on_path_ancestor}
 
 pub tags-rows_in : (tree : Keys) (rows : List PlainRow) → tags (rows_in tree rows) ≡ map (λ (r : PlainRow). r.tag.0) rows
 tags-rows_in tree [] = refl
@@ -41,9 +43,6 @@ Fits-open tree rows size t f sweep is has path hidden kinds =
       meets = λ b within. each (λ (r : PlainRow). f b ≡ met sweep r.tag.0 b) (λ r.
           sym (ap f (zero-add b)) ∙ sym (range_at f 0 size b None within) ∙ ap (λ ks. slice_index_or ks b None) (sym kinds) ∙ sym (ap (λ hs. cond (contains hs r.tag.0) None (slice_index_or sweep.kinds b None)) hidden)) rows;
     }
-
-pub unlike : (a b : ℕ) → a ≢ b → (a == b) ≡ false
-unlike a b differs = false_from_ne_true _ (λ same. differs (eqb-true a b same))
 
 -- a tag is among those picked by a test exactly where it is there and passes
 pub contains_filter : (q : ℕ → Bool) (rows : List PlainRow) (u : ℕ) → contains (map (λ (r : PlainRow). r.tag.0) (filter (λ (r : PlainRow). q r.tag.0) rows)) u ≡ (q u && contains (map (λ (r : PlainRow). r.tag.0) rows) u)
@@ -73,12 +72,8 @@ all_there : (rows all : List PlainRow) → ((r : PlainRow) → contains (map (λ
 all_there [] all within = tt
 all_there (r ∷ rows) all within = (
   within r (ap (λ b. b || contains (map (λ (x : PlainRow). x.tag.0) rows) r.tag.0) (eq-eqb r.tag.0 r.tag.0 refl)),
-  all_there rows all (λ other h. within other (or_later (r.tag.0 == other.tag.0) _ h)),
+  all_there rows all (λ other h. within other (or_right (r.tag.0 == other.tag.0) _ h)),
 )
-  where
-    or_later : (b c : Bool) → c ≡ true → (b || c) ≡ true
-    or_later true c h = refl
-    or_later false c h = h
 
 mapped : (P Q : PlainRow → Type 0) (rows : List PlainRow) → ((r : PlainRow) → P r → Q r) → AllByRecursion P rows → AllByRecursion Q rows
 mapped P Q [] f all = tt
@@ -117,7 +112,7 @@ Fits-release tree rows size t r sweep is has found path hidden kinds =
 
 -- whether a tag lies below another, by the tree
 pub below_tells : (tree : Keys) (rows : List PlainRow) (size t u : ℕ) (b : Bool) → IsPlain tree rows size → HasTag (rows_in tree rows) u → (b ≡ true → IsAncestor tree t u) → (IsAncestor tree t u → b ≡ true) → (not (u == t) && b) ≡ is_below (rows_in tree rows) t u
-below_tells tree rows size t u b is has to back = ap (λ c. not (u == t) && c) (same b (is_on_way (rows_in tree rows) u t) (λ h. ancestor_on_way tree rows size t u is has (to h)) (λ h. back (on_way_ancestor tree rows size t u is has h)))
+below_tells tree rows size t u b is has to back = ap (λ c. not (u == t) && c) (same b (is_on_path (rows_in tree rows) u t) (λ h. ancestor_on_path tree rows size t u is has (to h)) (λ h. back (on_path_ancestor tree rows size t u is has h)))
   where
     same : (c d : Bool) → (c ≡ true → d ≡ true) → (d ≡ true → c ≡ true) → c ≡ d
     same true d f g = sym (f refl)
@@ -128,11 +123,7 @@ below_tells tree rows size t u b is has to back = ap (λ c. not (u == t) && c) (
 pub HasTag_at : (tree : Keys) (rows : List PlainRow) (i : ℕ) (d : PlainRow) → i < length rows → HasTag (rows_in tree rows) (slice_index_or rows i d).tag.0
 HasTag_at tree [] i d within = absurd (omega arith)
 HasTag_at tree (r ∷ rows) zero d within = ap (λ b. b || list_any (is_tag r.tag.0) (rows_in tree rows)) (eq-eqb r.tag.0 r.tag.0 refl)
-HasTag_at tree (r ∷ rows) (suc i) d within = or_later (r.tag.0 == (slice_index_or rows i d).tag.0) _ (HasTag_at tree rows i d (omega arith))
-  where
-    or_later : (b c : Bool) → c ≡ true → (b || c) ≡ true
-    or_later true c h = refl
-    or_later false c h = h
+HasTag_at tree (r ∷ rows) (suc i) d within = or_right (r.tag.0 == (slice_index_or rows i d).tag.0) _ (HasTag_at tree rows i d (omega arith))
 
 pub HasTag_item : (tree : Keys) (rows : List PlainRow) (i : ℕ) (r : PlainRow) → i < length rows → r ≡ slice_index_or rows i r → HasTag (rows_in tree rows) r.tag.0
 HasTag_item tree rows i r within is = subst (λ (x : PlainRow). HasTag (rows_in tree rows) x.tag.0) (sym is) (HasTag_at tree rows i r within)

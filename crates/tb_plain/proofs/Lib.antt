@@ -1,5 +1,5 @@
 pub mod Moves
-pub mod Ways
+pub mod Paths
 pub mod Reports
 pub mod Fitting
 pub mod Outcomes
@@ -7,4 +7,5 @@ pub mod Made
 pub mod Unguarded
 pub mod Greatest
 pub mod Pruned
+pub mod Notes
 pub mod TakenOut

@@ -3,7 +3,7 @@ use Rattle.std.proofs.Common.{◌≡◌, ◌∙◌, ◌≢◌, ◌||◌, ℕ, �
 use Rattle.std.specs.Prelude.{option_and_then}
 use Rattle.std.specs.Option.{option_or}
 use Rattle.std.specs.List.{list_any, AllByRecursion, range_with_len}
-use Rattle.std.proofs.lemmas.Bool.{eq-eqb, lt-ltb}
+use Rattle.std.proofs.lemmas.Bool.{eq-eqb, lt-ltb, ne_eqb}
 use Rattle.std.proofs.lemmas.List.{map-append, append-nil}
 use Rattle.std.proofs.lemmas.List.Elements.{recursion_from_All, filter-append}
 use Rattle.std.proofs.lemmas.List.Folds.{find-append}
@@ -20,7 +20,6 @@ use Rattle.tb_plain.specs.Plain.{row_in, rows_in, IsPlain, notes_of}
 use Rattle.tb_plain.specs.Fits.{Fits}
 use Rattle.tb_plain.specs.Sweep.{swept}
 use Rattle.tb_plain.specs.Changes.{IsMade}
-use Rattle.tb_plain.proofs.Fitting.{unlike}
 use Rattle.tb_plain.proofs.Reports.{after-swept, tags-swept, notes-swept}
 
 -- a key above all others comes last
@@ -47,11 +46,11 @@ all_below tree rows size key is above =
 
 none_below : (key : ℕ) (tree : Keys) → AllByRecursion (λ (e : ℕ × Option ℕ). e.0 < key) tree → find (is_key key) tree ≡ None
 none_below key [] all = refl
-none_below key (e ∷ tree) all = ap (λ b. cond b (Some e) (find (is_key key) tree)) (unlike e.0 key (omega (arith, all.0))) ∙ none_below key tree all.1
+none_below key (e ∷ tree) all = ap (λ b. cond b (Some e) (find (is_key key) tree)) (ne_eqb e.0 key (omega (arith, all.0))) ∙ none_below key tree all.1
 
 pub fresh_key : (key : ℕ) (tree : Keys) → AllByRecursion (λ (e : ℕ × Option ℕ). e.0 < key) tree → HasKey tree key → ⊥
 fresh_key key [] all has = cc
-fresh_key key (e ∷ tree) all has = at (unlike e.0 key (omega (arith, all.0))) (fresh_key key tree all.1)
+fresh_key key (e ∷ tree) all has = at (ne_eqb e.0 key (omega (arith, all.0))) (fresh_key key tree all.1)
   where
     at : (e.0 == key) ≡ false → (HasKey tree key → ⊥) → ⊥
     at differs later = later (subst (λ b. (b || list_any (is_key key) tree) ≡ true) differs has)
@@ -63,7 +62,7 @@ or_none (Some x) = refl
 -- the parents with the new key
 parent_other : (parent key q : ℕ) (tree : Keys) → key ≢ q → parent_of (tree ++ (key, Some parent) ∷ []) q ≡ parent_of tree q
 parent_other parent key q tree differs =
-    ap (option_and_then (λ (e : ℕ × Option ℕ). e.1)) (find-append (is_key q) tree ((key, Some parent) ∷ []) ∙ ap (λ b. option_or (find (is_key q) tree) (cond {A = Option (ℕ × Option ℕ)} b (Some (key, Some parent)) None)) (unlike key q differs) ∙ or_none (find (is_key q) tree))
+    ap (option_and_then (λ (e : ℕ × Option ℕ). e.1)) (find-append (is_key q) tree ((key, Some parent) ∷ []) ∙ ap (λ b. option_or (find (is_key q) tree) (cond {A = Option (ℕ × Option ℕ)} b (Some (key, Some parent)) None)) (ne_eqb key q differs) ∙ or_none (find (is_key q) tree))
 
 parent_new : (parent key : ℕ) (tree : Keys) → AllByRecursion (λ (e : ℕ × Option ℕ). e.0 < key) tree → parent_of (tree ++ (key, Some parent) ∷ []) key ≡ Some parent
 parent_new parent key tree all =

@@ -2,7 +2,7 @@
 use Rattle.std.proofs.Common.{◌≡◌, ◌∙◌, ◌≢◌, ◌||◌, ◌&&◌, ℕ, suc, ◌+◌, ◌<◌, ◌≤◌, Bool, true, false, cond, List, [], ◌∷◌, length, map, filter, refl, ap, sym, subst, arith, Option, Some, None, find, ◌==◌, slice_index_or, All}
 use Rattle.std.specs.Prelude.{option_map, option_and_then, unwrap_or, IsSome, count_by}
 use Rattle.std.specs.List.{AllByRecursion}
-use Rattle.std.proofs.lemmas.Bool.{eqb-true, eq-eqb, lt-ltb, ltb-false}
+use Rattle.std.proofs.lemmas.Bool.{eqb-true, eq-eqb, lt-ltb, ltb-false, ne_eqb}
 use Rattle.tb_perm.specs.Covers.{Covers}
 use Rattle.std.proofs.lemmas.List.Elements.{All-from_recursion}
 use Rattle.std.proofs.lemmas.List.Sums.{sum_by-cons}
@@ -14,11 +14,12 @@ use Rattle.tb_perm.specs.Pruning.{is_noted, parent_in, IsLeaf, IsOnlyChild, perm
 use Rattle.tb_shape.specs.Tree.{Keys, is_key, parent_of, is_child_of, AreChildren}
 use Rattle.tb_plain.specs.declared.row.PlainRow.{PlainRow}
 use Rattle.tb_plain.specs.Plain.{row_in, rows_in, IsPlain, notes_of}
-use Rattle.tb_plain.specs.Fits.{tags}
+use Rattle.tb_perm.specs.Rows.{tags}
 use Rattle.tb_plain.specs.Sweep.{is_plain, HasPlain, contains, plain_state}
 use Rattle.tb_plain.specs.Pruning.{tags_of, noted_plain, cleared_plain, is_lesser, IsGreatest}
-use Rattle.tb_plain.proofs.Ways.{any_tags, find-rows_in}
-use Rattle.tb_plain.proofs.Fitting.{tags-rows_in, unlike, row_sized}
+use Rattle.tb_perm.proofs.PathTags.{any_tags}
+use Rattle.tb_plain.proofs.Paths.{find-rows_in, found_tag, parent_in-tree}
+use Rattle.tb_plain.proofs.Fitting.{tags-rows_in, row_sized}
 
 -- a note changes no row of the tree
 pub rows-noted : (tree : Keys) (rows : List PlainRow) (t : ℕ) → rows_in tree (map (noted_plain t) rows) ≡ rows_in tree rows
@@ -86,7 +87,7 @@ noted_others (r ∷ rows) t u differs = notes_cons (noted_plain t r) (map (noted
 
     at : (b : Bool) → (r.tag.0 == t) ≡ b → is_noted (notes_of (map (noted_plain t) rows)) u ≡ is_noted (notes_of rows) u → (((cond b (record r { noted = true }) r).noted && ((cond b (record r { noted = true }) r).tag.0 == u)) || is_noted (notes_of (map (noted_plain t) rows)) u) ≡ ((r.noted && (r.tag.0 == u)) || is_noted (notes_of rows) u)
     at true is later =
-        let away : (r.tag.0 == u) ≡ false = unlike r.tag.0 u (λ same. differs (sym same ∙ eqb-true r.tag.0 t is)) in
+        let away : (r.tag.0 == u) ≡ false = ne_eqb r.tag.0 u (λ same. differs (sym same ∙ eqb-true r.tag.0 t is)) in
         ap (λ b. b || is_noted (notes_of (map (noted_plain t) rows)) u) (no_note true _ away) ∙ later ∙ sym (ap (λ b. b || is_noted (notes_of rows) u) (no_note r.noted _ away))
     at false is later = ap (λ b. (r.noted && (r.tag.0 == u)) || b) later
 
@@ -100,44 +101,6 @@ all_in P tree rows all = All-from_recursion (λ (row : Row). P row.tag) (rows_in
 
 pub has_tag_of : (tree : Keys) (rows : List PlainRow) (t : ℕ) → contains (tags_of rows) t ≡ true → HasTag (rows_in tree rows) t
 has_tag_of tree rows t has = any_tags (rows_in tree rows) t ∙ ap (λ ks. contains ks t) (tags-rows_in tree rows) ∙ has
-
--- parents in the rows are those in the tree of tags
-missing_key : (tree : Keys) (keys : List ℕ) (u : ℕ) → map (λ (e : ℕ × Option ℕ). e.0) tree ≡ keys → contains keys u ≡ false → find (is_key u) tree ≡ None
-missing_key [] keys u same none = refl
-missing_key (e ∷ tree) [] u same none = cc
-missing_key (e ∷ tree) (k ∷ keys) u same none =
-    let head : e.0 ≡ k = cc in
-    let rest : map (λ (x : ℕ × Option ℕ). x.0) tree ≡ keys = cc in
-    at (e.0 == u) (k == u) (ap (λ n. n == u) head) none (missing_key tree keys u rest)
-  where
-    at : (b c : Bool) → b ≡ c → (c || contains keys u) ≡ false → (contains keys u ≡ false → find (is_key u) tree ≡ None) → cond b (Some e) (find (is_key u) tree) ≡ None
-    at true true h none later = cc
-    at true false h none later = cc
-    at false true h none later = cc
-    at false false h none later = later none
-
-none_found : (rows : List PlainRow) (u : ℕ) → find (is_plain u) rows ≡ None → contains (tags_of rows) u ≡ false
-none_found [] u none = refl
-none_found (r ∷ rows) u none = at (r.tag.0 == u) none (none_found rows u)
-  where
-    at : (b : Bool) → cond b (Some r) (find (is_plain u) rows) ≡ None → (find (is_plain u) rows ≡ None → contains (tags_of rows) u ≡ false) → (b || contains (tags_of rows) u) ≡ false
-    at true none later = cc
-    at false none later = later none
-
-pub found_tag : (rows : List PlainRow) (u : ℕ) (r : PlainRow) → find (is_plain u) rows ≡ Some r → r.tag.0 ≡ u
-found_tag [] u r found = cc
-found_tag (x ∷ rows) u r found = at (x.tag.0 == u) refl found (found_tag rows u r)
-  where
-    at : (b : Bool) → (x.tag.0 == u) ≡ b → cond b (Some x) (find (is_plain u) rows) ≡ Some r → (find (is_plain u) rows ≡ Some r → r.tag.0 ≡ u) → r.tag.0 ≡ u
-    at true is found later = let one : x ≡ r = cc in ap (λ (y : PlainRow). y.tag.0) (sym one) ∙ eqb-true x.tag.0 u is
-    at false is found later = later found
-
-pub parent_in-tree : (tree : Keys) (rows : List PlainRow) (size u : ℕ) → IsPlain tree rows size → parent_in (rows_in tree rows) u ≡ parent_of tree u
-parent_in-tree tree rows size u is = ap (option_and_then (λ (row : Row). row.parent)) (find-rows_in tree rows u) ∙ at (find (is_plain u) rows) refl
-  where
-    at : (o : Option PlainRow) → find (is_plain u) rows ≡ o → option_and_then (λ (row : Row). row.parent) (option_map (row_in tree) o) ≡ parent_of tree u
-    at None found = sym (ap (option_and_then (λ (e : ℕ × Option ℕ). e.1)) (missing_key tree (tags_of rows) u is.keys (none_found rows u found)))
-    at (Some r) found = ap (parent_of tree) (found_tag rows u r found)
 
 child_is : (t : ℕ) (o : Option ℕ) → cond {A = ℕ} (is_child_of t o) 1 0 ≡ 0 → o ≢ Some t
 child_is t None zero_is same = cc
@@ -206,7 +169,7 @@ perm_in-row tree rows t byte r found =
 pub leaf_tells : (tree : Keys) (t : ℕ) (cs : List ℕ) (b : Bool) → AreChildren tree t cs → b ≡ (length cs == 0) → (b ≡ true → (u : ℕ) → parent_of tree u ≢ Some t) × (((u : ℕ) → parent_of tree u ≢ Some t) → b ≡ true)
 leaf_tells tree t [] b children is = (λ h. leaf_none tree t children, λ leaf. is ∙ eq-eqb 0 0 refl)
 leaf_tells tree t (c ∷ cs) b children is = (
-  λ h. let clash : false ≡ true = sym (unlike (suc (length cs)) 0 (λ same. absurd (omega (arith, same)))) ∙ sym is ∙ h in absurd (cc),
+  λ h. let clash : false ≡ true = sym (ne_eqb (suc (length cs)) 0 (λ same. absurd (omega (arith, same)))) ∙ sym is ∙ h in absurd (cc),
   λ leaf. absurd (leaf c (leaf_some tree t c cs children)),
 )
 

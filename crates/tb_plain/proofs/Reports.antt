@@ -10,7 +10,7 @@ use Rattle.tb_perm.specs.declared.perm.State.{State}
 use Rattle.tb_perm.specs.declared.report.Access.{Access}
 use Rattle.tb_perm.specs.declared.report.Refusal.{Refusal}
 use Rattle.tb_perm.specs.Table.{is_guarded}
-use Rattle.tb_perm.specs.Rows.{Row, way, state_at, IsRows}
+use Rattle.tb_perm.specs.Rows.{Row, path_to_root, state_at, IsRows}
 use Rattle.tb_perm.specs.Event.{Event, after, moved_row, moved_state, moved_states, refusal_of, refusal_at, rel_of}
 use Rattle.tb_perm.specs.Choice.{refuses, refused_byte, refusing_row, report_on, report_at, report_of}
 use Rattle.tb_perm.specs.Deallocation.{strong_refusal, dealloc_report}
@@ -24,8 +24,9 @@ use Rattle.tb_plain.specs.declared.sweep.Sweep.{Sweep}
 use Rattle.tb_plain.specs.Plain.{row_in, rows_in, IsPlain, notes_of}
 use Rattle.tb_plain.specs.Sweep.{is_plain, rows_on, met, rel_in, swept, refusal_by, refuses_by, byte_by, row_by, report_by, reported_at, reported}
 use Rattle.tb_plain.proofs.Moves.{find_All}
-use Rattle.tb_plain.specs.Fits.{tags, Fits}
-use Rattle.tb_plain.proofs.Ways.{is_on_way-path, rows_on_way}
+use Rattle.tb_perm.specs.Rows.{tags}
+use Rattle.tb_plain.specs.Fits.{Fits}
+use Rattle.tb_plain.proofs.Paths.{is_on_path-path, rows_on_path}
 
 -- the rows refuse as the plain rows do
 abbrev pub Agrees : Keys → (Row → ℕ → Option Refusal) → Sweep → ℕ → List PlainRow → Type 0
@@ -57,9 +58,9 @@ or_mapped : {X Y : Type 0} (f : X → Y) (a b : Option X) → option_or (option_
 or_mapped f None b = refl
 or_mapped f (Some x) b = refl
 
-row_in_tree : (tree : Keys) (refusal : Row → ℕ → Option Refusal) (sweep : Sweep) (byte through : ℕ) (rows : List PlainRow) → map (row_in tree) (rows_on sweep.path rows) ≡ way (rows_in tree rows) through → Agrees tree refusal sweep byte rows → refusing_row refusal (rows_in tree rows) through byte ≡ option_map (row_in tree) (row_by sweep rows byte)
-row_in_tree tree refusal sweep byte through rows ways agrees =
-    ap (λ ws. option_or (find (refuses refusal byte) ws) (find (refuses refusal byte) (rows_in tree rows))) (sym ways)
+row_in_tree : (tree : Keys) (refusal : Row → ℕ → Option Refusal) (sweep : Sweep) (byte through : ℕ) (rows : List PlainRow) → map (row_in tree) (rows_on sweep.path rows) ≡ path_to_root (rows_in tree rows) through → Agrees tree refusal sweep byte rows → refusing_row refusal (rows_in tree rows) through byte ≡ option_map (row_in tree) (row_by sweep rows byte)
+row_in_tree tree refusal sweep byte through rows path agrees =
+    ap (λ ws. option_or (find (refuses refusal byte) ws) (find (refuses refusal byte) (rows_in tree rows))) (sym path)
     ∙ ap (λ o. option_or o (find (refuses refusal byte) (rows_in tree rows))) (find_in tree refusal sweep byte (rows_on sweep.path rows) (all_on (λ (r : PlainRow). refusal (row_in tree r) byte ≡ refusal_by sweep r byte) sweep.path rows agrees))
     ∙ ap (option_or (option_map (row_in tree) (find (refuses_by sweep byte) (rows_on sweep.path rows)))) (find_in tree refusal sweep byte rows agrees)
     ∙ or_mapped (row_in tree) (find (refuses_by sweep byte) (rows_on sweep.path rows)) (find (refuses_by sweep byte) rows)
@@ -72,9 +73,9 @@ blamed_All P sweep rows byte r all is = at (find (refuses_by sweep byte) (rows_o
     at None none is = find_All P (refuses_by sweep byte) rows r all is
     at (Some x) found is = let one : x ≡ r = cc in subst P one (find_All P (refuses_by sweep byte) (rows_on sweep.path rows) x (all_on P sweep.path rows all) found)
 
-report_in : (tree : Keys) (refusal : Row → ℕ → Option Refusal) (sweep : Sweep) (access : Access) (byte through : ℕ) (rows : List PlainRow) → map (row_in tree) (rows_on sweep.path rows) ≡ way (rows_in tree rows) through → Agrees tree refusal sweep byte rows → report_at refusal access (rows_in tree rows) through byte ≡ reported_at sweep access rows through byte
-report_in tree refusal sweep access byte through rows ways agrees =
-    ap (option_and_then (λ row. option_map (report_on access through byte row) (refusal row byte))) (row_in_tree tree refusal sweep byte through rows ways agrees) ∙ at (row_by sweep rows byte) refl
+report_in : (tree : Keys) (refusal : Row → ℕ → Option Refusal) (sweep : Sweep) (access : Access) (byte through : ℕ) (rows : List PlainRow) → map (row_in tree) (rows_on sweep.path rows) ≡ path_to_root (rows_in tree rows) through → Agrees tree refusal sweep byte rows → report_at refusal access (rows_in tree rows) through byte ≡ reported_at sweep access rows through byte
+report_in tree refusal sweep access byte through rows path agrees =
+    ap (option_and_then (λ row. option_map (report_on access through byte row) (refusal row byte))) (row_in_tree tree refusal sweep byte through rows path agrees) ∙ at (row_by sweep rows byte) refl
   where
     at : (o : Option PlainRow) → row_by sweep rows byte ≡ o → option_and_then (λ row. option_map (report_on access through byte row) (refusal row byte)) (option_map (row_in tree) o) ≡ option_and_then (λ row. option_map (report_by access through byte row) (refusal_by sweep row byte)) o
     at None is = refl
@@ -95,8 +96,8 @@ range_bound q from (suc n) byte is = at (range_bound q (from + 1) n byte) (q fro
     at later false is = omega (arith, later is)
 
 -- the report of an event whose sweep has the path and refuses as it does
-pub report-reported : (tree : Keys) (refusal : Row → ℕ → Option Refusal) (sweep : Sweep) (access : Access) (size through : ℕ) (rows : List PlainRow) → map (row_in tree) (rows_on sweep.path rows) ≡ way (rows_in tree rows) through → ((b : ℕ) → b < size → Agrees tree refusal sweep b rows) → report_of refusal access size (rows_in tree rows) through ≡ reported sweep access size rows through
-report-reported tree refusal sweep access size through rows ways agrees =
+pub report-reported : (tree : Keys) (refusal : Row → ℕ → Option Refusal) (sweep : Sweep) (access : Access) (size through : ℕ) (rows : List PlainRow) → map (row_in tree) (rows_on sweep.path rows) ≡ path_to_root (rows_in tree rows) through → ((b : ℕ) → b < size → Agrees tree refusal sweep b rows) → report_of refusal access size (rows_in tree rows) through ≡ reported sweep access size rows through
+report-reported tree refusal sweep access size through rows path agrees =
     ap (option_and_then (report_at refusal access (rows_in tree rows) through)) bytes ∙ at (byte_by sweep size rows) refl
   where
     bytes : refused_byte refusal size (rows_in tree rows) ≡ byte_by sweep size rows
@@ -104,11 +105,11 @@ report-reported tree refusal sweep access size through rows ways agrees =
 
     at : (o : Option ℕ) → byte_by sweep size rows ≡ o → option_and_then (report_at refusal access (rows_in tree rows) through) o ≡ option_and_then (reported_at sweep access rows through) o
     at None is = refl
-    at (Some b) is = report_in tree refusal sweep access b through rows ways (agrees b (omega (arith, range_bound (λ b. list_any (refuses_by sweep b) rows) 0 size b is)))
+    at (Some b) is = report_in tree refusal sweep access b through rows path (agrees b (omega (arith, range_bound (λ b. list_any (refuses_by sweep b) rows) 0 size b is)))
 
 rel-fits : (tree : Keys) (rows : List PlainRow) (size : ℕ) (event : Event) (sweep : Sweep) (r : PlainRow) → Fits tree rows size event sweep → rel_of (rows_in tree rows) event (row_in tree r) ≡ rel_in sweep r.tag.0
 rel-fits tree rows size event sweep r fits =
-    ap (λ b. cond {A = Rel} b Local Foreign) (is_on_way-path tree rows size event.through r.tag.0 sweep.path fits.path)
+    ap (λ b. cond {A = Rel} b Local Foreign) (is_on_path-path tree rows size event.through r.tag.0 sweep.path fits.path)
 
 agrees_fits : (tree : Keys) (all : List PlainRow) (size : ℕ) (event : Event) (sweep : Sweep) → Fits tree all size event sweep → sweep.strong ≡ false → (b : ℕ) (rows : List PlainRow) → AllByRecursion (λ (r : PlainRow). event.meets r.tag.0 b ≡ met sweep r.tag.0 b) rows → Agrees tree (refusal_at (rows_in tree all) event) sweep b rows
 agrees_fits tree all size event sweep fits weak b [] meets = tt
@@ -122,7 +123,7 @@ agrees_fits tree all size event sweep fits weak b (r ∷ rows) meets = (
 -- the report of an event is that of the sweep that fits it
 pub report-fits : (tree : Keys) (rows : List PlainRow) (size : ℕ) (event : Event) (sweep : Sweep) (access : Access) → IsPlain tree rows size → Fits tree rows size event sweep → sweep.strong ≡ false → report_of (refusal_at (rows_in tree rows) event) access size (rows_in tree rows) event.through ≡ reported sweep access size rows event.through
 report-fits tree rows size event sweep access is fits weak =
-    report-reported tree (refusal_at (rows_in tree rows) event) sweep access size event.through rows (rows_on_way tree rows size event.through sweep.path is fits.path) (λ b within. agrees_fits tree rows size event sweep fits weak b rows (fits.meets b within))
+    report-reported tree (refusal_at (rows_in tree rows) event) sweep access size event.through rows (rows_on_path tree rows size event.through sweep.path is fits.path) (λ b within. agrees_fits tree rows size event sweep fits weak b rows (fits.meets b within))
 
 agrees_strong : (tree : Keys) (sweep : Sweep) → sweep.strong ≡ true → (b : ℕ) (rows : List PlainRow) → Agrees tree strong_refusal sweep b rows
 agrees_strong tree sweep strong b [] = tt
@@ -131,9 +132,9 @@ agrees_strong tree sweep strong b (r ∷ rows) = (
   agrees_strong tree sweep strong b rows,
 )
 
-pub report-strong : (tree : Keys) (rows : List PlainRow) (size through : ℕ) (sweep : Sweep) (access : Access) → IsPlain tree rows size → sweep.path ≡ tags (way (rows_in tree rows) through) → sweep.strong ≡ true → report_of strong_refusal access size (rows_in tree rows) through ≡ reported sweep access size rows through
+pub report-strong : (tree : Keys) (rows : List PlainRow) (size through : ℕ) (sweep : Sweep) (access : Access) → IsPlain tree rows size → sweep.path ≡ tags (path_to_root (rows_in tree rows) through) → sweep.strong ≡ true → report_of strong_refusal access size (rows_in tree rows) through ≡ reported sweep access size rows through
 report-strong tree rows size through sweep access is path strong =
-    report-reported tree strong_refusal sweep access size through rows (rows_on_way tree rows size through sweep.path is path) (λ b within. agrees_strong tree sweep strong b rows)
+    report-reported tree strong_refusal sweep access size through rows (rows_on_path tree rows size through sweep.path is path) (λ b within. agrees_strong tree sweep strong b rows)
 
 moved_states_same : (f g : ℕ → Option Kind) (p : Bool) (rel : Rel) (from : ℕ) (states : List State) → ((b : ℕ) → from ≤ b → b < from + length states → f b ≡ g b) → moved_states f p rel from states ≡ moved_states g p rel from states
 moved_states_same f g p rel from [] same = refl

@@ -2,7 +2,7 @@
 use Rattle.std.proofs.Common.{◌≡◌, ◌∙◌, ◌≢◌, ℕ, suc, zero, ◌<◌, Bool, true, false, not, cond, List, [], ◌∷◌, length, map, filter, remove, refl, ap, sym, subst, arith, Option, Some, None, find, ◌==◌, slice_index_or}
 use Rattle.std.specs.Prelude.{option_map, option_and_then}
 use Rattle.std.specs.List.{AllByRecursion}
-use Rattle.std.proofs.lemmas.Bool.{eqb-true, eq-eqb}
+use Rattle.std.proofs.lemmas.Bool.{eqb-true, eq-eqb, ne_eqb}
 use Rattle.tb_perm.specs.Rows.{Row, is_tag, IsRows}
 use Rattle.tb_perm.specs.Pruning.{moved_up_row, removed, forgotten}
 use Rattle.tb_perm.proofs.Unique.{AreRising, AreRising-rows}
@@ -11,13 +11,12 @@ use Rattle.tb_shape.specs.Tree.{Keys, is_key, parent_of, is_child_of, without, s
 use Rattle.tb_plain.specs.declared.row.PlainRow.{PlainRow}
 use Rattle.tb_plain.specs.Plain.{row_in, rows_in, IsPlain, notes_of}
 use Rattle.tb_plain.specs.Pruning.{tags_of, others_plain, other_keys, keys_of}
-use Rattle.tb_plain.proofs.Fitting.{unlike}
-use Rattle.tb_plain.proofs.Pruned.{parent_in-tree}
+use Rattle.tb_plain.proofs.Paths.{parent_in-tree}
 
 others_all : (tree : Keys) (t : ℕ) (rows : List PlainRow) → AllByRecursion (λ (row : Row). t < row.tag) (rows_in tree rows) → others_plain t rows ≡ rows
 others_all tree t [] all = refl
 others_all tree t (r ∷ rows) all =
-    ap (λ b. cond (not b) (r ∷ others_plain t rows) (others_plain t rows)) (unlike r.tag.0 t (λ same. absurd (omega (arith, same, all.0)))) ∙ ap (λ xs. r ∷ xs) (others_all tree t rows all.1)
+    ap (λ b. cond (not b) (r ∷ others_plain t rows) (others_plain t rows)) (ne_eqb r.tag.0 t (λ same. absurd (omega (arith, same, all.0)))) ∙ ap (λ xs. r ∷ xs) (others_all tree t rows all.1)
 
 greater_at : (tree : Keys) (k : ℕ) (rows : List PlainRow) (at : ℕ) (d : PlainRow) → AllByRecursion (λ (row : Row). k < row.tag) (rows_in tree rows) → at < length rows → k < (slice_index_or rows at d).tag.0
 greater_at tree k [] at d all within = absurd (omega arith)
@@ -31,7 +30,7 @@ remove_rising tree (r ∷ rows) t zero d rising within is =
     sym (ap (λ b. cond (not b) (r ∷ others_plain t rows) (others_plain t rows)) (eq-eqb r.tag.0 t is) ∙ others_all tree t rows (subst (λ k. AllByRecursion (λ (row : Row). k < row.tag) (rows_in tree rows)) is rising.0))
 remove_rising tree (r ∷ rows) t (suc at) d rising within is =
     let less : r.tag.0 < (slice_index_or rows at d).tag.0 = greater_at tree r.tag.0 rows at d rising.0 (omega arith) in
-    ap (λ xs. r ∷ xs) (remove_rising tree rows t at d rising.1 (omega arith) is) ∙ sym (ap (λ b. cond (not b) (r ∷ others_plain t rows) (others_plain t rows)) (unlike r.tag.0 t (λ same. absurd (omega (arith, same, less, is)))))
+    ap (λ xs. r ∷ xs) (remove_rising tree rows t at d rising.1 (omega arith) is) ∙ sym (ap (λ b. cond (not b) (r ∷ others_plain t rows) (others_plain t rows)) (ne_eqb r.tag.0 t (λ same. absurd (omega (arith, same, less, is)))))
 
 pub remove_others : (tree : Keys) (rows : List PlainRow) (size t : ℕ) → IsPlain tree rows size → (at : ℕ) (d : PlainRow) → at < length rows → (slice_index_or rows at d).tag.0 ≡ t → remove rows at ≡ others_plain t rows
 remove_others tree rows size t is at d within found = remove_rising tree rows t at d (AreRising-rows size (rows_in tree rows) is.sound) within found
@@ -107,7 +106,7 @@ parent_leaf tree t q leaf = at (parent_of tree q) (leaf q)
   where
     at : (o : Option ℕ) → o ≢ Some t → o ≡ cond (is_child_of t o) (parent_of tree t) o
     at None differs = refl
-    at (Some p) differs = sym (ap (λ b. cond b (parent_of tree t) (Some p)) (unlike p t (λ same. differs (ap Some same))))
+    at (Some p) differs = sym (ap (λ b. cond b (parent_of tree t) (Some p)) (ne_eqb p t (λ same. differs (ap Some same))))
 
 rows_taken : (tree now : Keys) (rows : List PlainRow) (t : ℕ) → ((q : ℕ) → t ≢ q → parent_of now q ≡ cond (is_child_of t (parent_of tree q)) (parent_of tree t) (parent_of tree q)) → rows_in now (others_plain t rows) ≡ map (moved_up_row t (parent_of tree t)) (filter (λ row. not (is_tag t row)) (rows_in tree rows))
 rows_taken tree now [] t parents = refl

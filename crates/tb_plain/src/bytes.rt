@@ -9,8 +9,8 @@ ghost use Rattle.tb_plain.specs.Bytes.{access_at, reborrow_at};
 ghost use Rattle.tb_perm.specs.declared.perm.State.{State};
 
 use sqlite_items::Items;
-use std::alloc::Global;
-use tb_perm::{CellRange, Kind, Memory, NewTag, Perm, State};
+use std::alloc::{AllocError, Global};
+use tb_perm::{CellRange, Kind, NewTag, Perm, State};
 
 /// An access to the bytes of a range.
 pub fn access_kinds(
@@ -19,7 +19,7 @@ pub fn access_kinds(
     lo: u32,
     hi: u32,
     kind: Kind,
-) -> Result<Items<Option<Kind>>, Memory>
+) -> Result<Items<Option<Kind>>, AllocError>
     ensures { IfOk result (λ kinds. kinds ≡ map (access_at lo hi kind) (range_with_len 0 size)) }
 {
     let mut kinds = Items::new(alloc);
@@ -45,7 +45,11 @@ fn lies_in(lo: u32, hi: u32, byte: u32) -> bool
 }
 
 /// The read of a reborrow.
-pub fn reborrow_kinds(alloc: Global, size: u32, new: &NewTag) -> Result<Items<Option<Kind>>, Memory>
+pub fn reborrow_kinds(
+    alloc: Global,
+    size: u32,
+    new: &NewTag,
+) -> Result<Items<Option<Kind>>, AllocError>
     ensures { IfOk result (λ kinds. kinds ≡ map (reborrow_at new.now) (range_with_len 0 size)) }
 {
     let mut kinds = Items::new(alloc);
@@ -65,7 +69,7 @@ fn reborrow_in(new: &NewTag, byte: u32) -> Option<Kind>
 }
 
 /// The states of a new tag.
-pub fn new_states(alloc: Global, size: u32, new: &NewTag) -> Result<Items<State>, Memory>
+pub fn new_states(alloc: Global, size: u32, new: &NewTag) -> Result<Items<State>, AllocError>
     ensures { IfOk result (λ states. states ≡ map (new_state new.now) (range_with_len 0 size)) }
 {
     let mut states = Items::new(alloc);
@@ -119,7 +123,7 @@ fn is_cell_byte(cells: &[CellRange], byte: u32) -> bool
 }
 
 /// The accesses at the end of a call, of a tag with these states.
-pub fn release_kinds(alloc: Global, states: &[State]) -> Result<Items<Option<Kind>>, Memory>
+pub fn release_kinds(alloc: Global, states: &[State]) -> Result<Items<Option<Kind>>, AllocError>
     ensures { IfOk result (λ kinds. kinds ≡ map released_kind states.now) }
 {
     let mut kinds = Items::new(alloc);
@@ -143,7 +147,7 @@ fn release_of(state: State) -> Option<Kind>
 }
 
 /// The states of a root.
-pub fn root_states(alloc: Global, size: u32) -> Result<Items<State>, Memory>
+pub fn root_states(alloc: Global, size: u32) -> Result<Items<State>, AllocError>
     ensures { IfOk result (λ states. states ≡ replicate size (record { perm = Perm.Active; accessed = true })) }
 {
     let mut states = Items::new(alloc);
@@ -160,11 +164,11 @@ pub fn root_states(alloc: Global, size: u32) -> Result<Items<State>, Memory>
 }
 
 /// Adds an item at the end.
-pub fn put<T: Drop>(items: &mut Items<T>, item: T) -> Result<(), Memory>
+pub fn put<T: Drop>(items: &mut Items<T>, item: T) -> Result<(), AllocError>
     ensures { OnOk result (items.new ≡ items.old ++ item ∷ []) }
 {
     match items.push(item) {
         Ok(()) => Ok(()),
-        Err(_) => Err(Memory),
+        Err(_) => Err(AllocError),
     }
 }

@@ -15,12 +15,17 @@ use crate::choice::choose;
 use crate::events::reborrow_sweep;
 use crate::row::PlainRow;
 use crate::sweep::{Sweep, sweep_rows};
-use std::alloc::Global;
-use tb_perm::{Access, Guard, Memory, NewTag, Span, Tag, TreeError};
+use std::alloc::{AllocError, Global};
+use tb_perm::{Access, Guard, NewTag, Span, Tag, TreeError};
 use tb_shape::Shape;
 
 /// The row of a root, in a list of its own.
-pub fn root_rows(alloc: Global, size: u32, tag: Tag, made: Span) -> Result<Vec<PlainRow>, Memory>
+pub fn root_rows(
+    alloc: Global,
+    size: u32,
+    tag: Tag,
+    made: Span,
+) -> Result<Vec<PlainRow>, AllocError>
     ensures rows { IfOk result (λ rows. rows_in ((tag.0, None) ∷ []) rows.items ≡ root_row tag.0 size made ∷ []) }
     ensures notes { IfOk result (λ rows. notes_of rows.items ≡ []) }
     ensures plain { IfOk result (λ rows. IsPlain ((tag.0, None) ∷ []) rows.items size) }
@@ -36,7 +41,7 @@ pub fn root_rows(alloc: Global, size: u32, tag: Tag, made: Span) -> Result<Vec<P
     };
     match rows.push(row) {
         Ok(()) => Ok(rows),
-        Err(_) => Err(Memory),
+        Err(_) => Err(AllocError),
     }
 }
 
@@ -91,7 +96,7 @@ pub fn retag_in(
 }
 
 /// The row of a new tag.
-fn make_row(alloc: Global, size: u32, new: &NewTag) -> Result<PlainRow, Memory>
+fn make_row(alloc: Global, size: u32, new: &NewTag) -> Result<PlainRow, AllocError>
     ensures { IfOk result (IsMade size new.now) }
 {
     let states = new_states(alloc, size, new)?;
@@ -111,7 +116,7 @@ fn add_row(
     parent: Tag,
     row: PlainRow,
     sweep: &Sweep,
-) -> Result<(), Memory>
+) -> Result<(), AllocError>
     requires parent { HasKey shape.old parent.0 }
     requires fresh { ¬ HasKey shape.old row.tag.0 }
     ensures rows { OnOk result (rows.new.items ≡ map (swept sweep.now) rows.old.items ++ row ∷ []) }
@@ -121,11 +126,11 @@ fn add_row(
 {
     match rows.reserve(1) {
         Ok(()) => {}
-        Err(_) => return Err(Memory),
+        Err(_) => return Err(AllocError),
     }
     match shape.add_child(parent.0, row.tag.0) {
         Ok(()) => {}
-        Err(_) => return Err(Memory),
+        Err(_) => return Err(AllocError),
     }
     sweep_rows(rows, sweep);
     match rows.push(row) {

@@ -11,7 +11,7 @@ use crate::sweep::{Sweep, refusal};
 use tb_perm::{Access, Report, Tag};
 
 /// The report of an event, or none where no row refuses it: it names the least byte at which a row
-/// refuses, and there the nearest tag on the way to the root that refuses, or else the least tag.
+/// refuses, and there the nearest tag on the path to the root that refuses, or else the least tag.
 pub fn choose(
     rows: &[PlainRow],
     sweep: &Sweep,
@@ -94,7 +94,7 @@ fn blamed<'a>(rows: &'a [PlainRow], sweep: &Sweep, byte: u32) -> Option<&'a Plai
     }
 }
 
-/// The first tag on the way to the root that refuses.
+/// The first tag on the path to the root that refuses.
 fn nearest<'a>(rows: &'a [PlainRow], sweep: &Sweep, byte: u32) -> Option<&'a PlainRow>
     requires { All (λ (row : PlainRow). byte < length row.states) rows.now }
     ensures value { option_copied result ≡ find (refuses_by sweep.now byte) (rows_on sweep.now.path rows.now) }

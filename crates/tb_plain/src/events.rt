@@ -20,8 +20,8 @@ use crate::choice::{choose, row_of};
 use crate::row::PlainRow;
 use crate::sweep::{Sweep, sweep_rows};
 use sqlite_items::Items;
-use std::alloc::Global;
-use tb_perm::{Access, Kind, Memory, NewTag, Tag, TreeError};
+use std::alloc::{AllocError, Global};
+use tb_perm::{Access, Kind, NewTag, Tag, TreeError};
 use tb_shape::Shape;
 
 /// The sweep of an access.
@@ -34,7 +34,7 @@ pub fn access_sweep(
     lo: u32,
     hi: u32,
     kind: Kind,
-) -> Result<Sweep, Memory>
+) -> Result<Sweep, AllocError>
     requires plain { IsPlain shape.now rows.now size }
     requires tag { HasTag (rows_in shape.now rows.now) tag.0 }
     ensures fits { IfOk result (Fits shape.now rows.now size (access_event tag.0 lo hi kind)) }
@@ -50,13 +50,13 @@ pub fn access_sweep(
     })
 }
 
-fn path_of(shape: &Shape, tag: u64) -> Result<Items<u64>, Memory>
+fn path_of(shape: &Shape, tag: u64) -> Result<Items<u64>, AllocError>
     requires { HasKey shape.now tag }
     ensures { IfOk result (IsPath shape.now tag) }
 {
     match shape.path(tag) {
         Ok(path) => Ok(Items::from_vec(path)),
-        Err(_) => Err(Memory),
+        Err(_) => Err(AllocError),
     }
 }
 
@@ -89,7 +89,7 @@ pub fn reborrow_sweep(
     rows: &[PlainRow],
     size: u32,
     new: &NewTag,
-) -> Result<Sweep, Memory>
+) -> Result<Sweep, AllocError>
     requires plain { IsPlain shape.now rows.now size }
     requires parent { HasTag (rows_in shape.now rows.now) new.now.parent.0 }
     ensures fits { IfOk result (Fits shape.now rows.now size (reborrow_event new.now)) }
@@ -112,7 +112,7 @@ pub fn release_sweep(
     rows: &[PlainRow],
     size: u32,
     tag: Tag,
-) -> Result<Sweep, Memory>
+) -> Result<Sweep, AllocError>
     requires plain { IsPlain shape.now rows.now size }
     requires tag { HasTag (rows_in shape.now rows.now) tag.0 }
     ensures fits { IfOk result (Fits shape.now rows.now size (release_event (rows_in shape.now rows.now) tag.0)) }
@@ -147,7 +147,7 @@ fn tags_below(
     rows: &[PlainRow],
     size: u32,
     tag: Tag,
-) -> Result<Items<u64>, Memory>
+) -> Result<Items<u64>, AllocError>
     requires { IsPlain shape.now rows.now size }
     ensures { IfOk result (λ tags. tags ≡ map (λ (x : PlainRow). x.tag.0) (filter (λ (x : PlainRow). is_below (rows_in shape.now rows.now) tag.0 x.tag.0) rows.now)) }
 {

@@ -7,10 +7,10 @@ use crate::row::PlainRow;
 #[cfg(test)]
 mod tests;
 
-use std::alloc::Global;
+use std::alloc::{AllocError, Global};
 use std::marker::Model;
 use std::sync::ledger::Ledger;
-use tb_perm::{BorrowTree, Kind, Memory, NewTag, Span, Steps, Tag, TreeError};
+use tb_perm::{BorrowTree, Kind, NewTag, PruneTree, Span, Steps, Tag, TreeError};
 use tb_shape::Shape;
 
 /// A tree of tags that keeps one state for every tag and byte. Contracts see its rows, how many
@@ -39,11 +39,11 @@ impl BorrowTree for PlainTree {
 
     ghost notes = { λ t. t.notes };
 
-    fn root(alloc: Global, size: u32, tag: Tag, made: Span) -> Result<PlainTree, Memory> {
+    fn root(alloc: Global, size: u32, tag: Tag, made: Span) -> Result<PlainTree, AllocError> {
         let rows = root_rows(alloc, size, tag, made)?;
         match Shape::new(alloc, tag.0) {
             Ok(shape) => Ok(PlainTree { shape, rows, size }),
-            Err(_) => Err(Memory),
+            Err(_) => Err(AllocError),
         }
     }
 
@@ -75,101 +75,44 @@ impl BorrowTree for PlainTree {
     }
 }
 
-impl PlainTree {
-    ghost use Rattle.std.specs.Prelude.{◌≡◌, ◌≢◌, ◌≤◌, ◌<◌, ◌↔◌, ◌⊎◌, ℕ, [], All, IfSome, IfNone, IsSome, IsTrue, length, None, true};
-    ghost use Rattle.tb_perm.specs.Rows.{Row, HasTag};
-    ghost use Rattle.tb_perm.specs.Pruning.{is_noted, parent_in, IsLeaf, IsOnlyChild, Folds, removed, forgotten};
-
-    /// Notes a tag for the next pruning.
-    pub fn note(&mut self, tag: Tag)
-        requires { HasTag self.old.rows tag.0 }
-        ensures rows { self.new.rows ≡ self.old.rows }
-        ensures size { self.new.size ≡ self.old.size }
-        ensures noted { is_noted self.new.notes tag.0 ≡ true }
-        ensures others { (other : ℕ) → other ≢ tag.0 → is_noted self.new.notes other ≡ is_noted self.old.notes other }
-    {
+impl PruneTree for PlainTree {
+    fn note(&mut self, tag: Tag) {
         note_in(&mut self.rows, tag);
     }
 
-    /// Whether a tag is noted.
-    pub fn noted(&self, tag: Tag) -> bool
-        requires { HasTag self.now.rows tag.0 }
-        ensures { result ≡ is_noted self.now.notes tag.0 }
-    {
+    fn noted(&self, tag: Tag) -> bool {
         is_noted_in(&self.rows, tag)
     }
 
-    /// Forgets all notes.
-    pub fn clear_notes(&mut self)
-        ensures rows { self.new.rows ≡ self.old.rows }
-        ensures size { self.new.size ≡ self.old.size }
-        ensures notes { self.new.notes ≡ [] }
-    {
+    fn clear_notes(&mut self) {
         clear_in(&mut self.rows);
     }
 
-    /// The greatest tag.
-    pub fn greatest(&self) -> Tag
-        ensures there { HasTag self.now.rows result.0 }
-        ensures greatest { All (λ (row : Row). row.tag ≤ result.0) self.now.rows }
-    {
+    fn greatest(&self) -> Tag {
         greatest_of(&self.shape, &self.rows, self.size)
     }
 
-    /// The greatest tag less than this one; none for the root alone, which is the least.
-    pub fn below(&self, tag: Tag) -> Option<Tag>
-        requires { HasTag self.now.rows tag.0 }
-        ensures there { IfSome result (λ found. HasTag self.now.rows found.0) }
-        ensures less { IfSome result (λ found. found.0 < tag.0) }
-        ensures greatest { IfSome result (λ found. All (λ (row : Row). row.tag < tag.0 → row.tag ≤ found.0) self.now.rows) }
-        ensures child { IfSome result (λ found. IsSome (parent_in self.now.rows tag.0)) }
-        ensures root { IfNone result (parent_in self.now.rows tag.0 ≡ None) }
-        ensures least { IfNone result (All (λ (row : Row). tag.0 ≤ row.tag) self.now.rows) }
-    {
+    fn below(&self, tag: Tag) -> Option<Tag> {
         less_than(&self.shape, &self.rows, self.size, tag)
     }
 
-    /// How many tags there are.
-    pub fn count(&self) -> u64
-        ensures { result ≡ length self.now.rows }
-    {
+    fn count(&self) -> u64 {
         self.rows.len() as u64
     }
 
-    /// Whether no tag has this one as its parent.
-    pub fn is_leaf(&self, tag: Tag) -> bool
-        requires { HasTag self.now.rows tag.0 }
-        ensures { IsTrue result ↔ IsLeaf self.now.rows tag.0 }
-    {
+    fn is_leaf(&self, tag: Tag) -> bool {
         is_leaf_in(&self.shape, &self.rows, self.size, tag)
     }
 
-    /// The one tag that has this one as its parent; none where there is no such tag or more than one.
-    pub fn only_child(&self, tag: Tag) -> Option<Tag>
-        requires { HasTag self.now.rows tag.0 }
-        ensures only { IfSome result (λ child. IsOnlyChild self.now.rows tag.0 child.0) }
-        ensures none { IfNone result ((child : ℕ) → ¬ IsOnlyChild self.now.rows tag.0 child) }
-    {
+    fn only_child(&self, tag: Tag) -> Option<Tag> {
         only_child_in(&self.shape, &self.rows, self.size, tag)
     }
 
-    /// Whether at every byte the child's permission, with this guard, covers the tag's.
-    pub fn folds(&self, tag: Tag, child: Tag, guarded: bool) -> bool
-        requires tag { HasTag self.now.rows tag.0 }
-        requires child { HasTag self.now.rows child.0 }
-        ensures { IsTrue result ↔ Folds self.now.rows self.now.size tag.0 child.0 guarded }
-    {
+    fn folds(&self, tag: Tag, child: Tag, guarded: bool) -> bool {
         folds_in(&self.shape, &self.rows, self.size, tag, child, guarded)
     }
 
-    /// Takes out a tag that has a parent, and no child or one, which becomes its parent's child.
-    pub fn remove(&mut self, tag: Tag)
-        requires below { IsSome (parent_in self.old.rows tag.0) }
-        requires alone { IsLeaf self.old.rows tag.0 ⊎ ((child : ℕ) × IsOnlyChild self.old.rows tag.0 child) }
-        ensures rows { self.new.rows ≡ removed self.old.rows tag.0 }
-        ensures size { self.new.size ≡ self.old.size }
-        ensures notes { self.new.notes ≡ forgotten self.old.notes tag.0 }
-    {
+    fn remove(&mut self, tag: Tag) {
         remove_in(&mut self.shape, &mut self.rows, self.size, tag);
     }
 }

@@ -6,7 +6,7 @@ ghost use Rattle.std.specs.HashMap.{get, IsUnchanged};
 ghost use Rattle.tb_perm.specs.declared.tag.Prov.{Prov};
 ghost use Rattle.tb_protect.specs.Kept.{key_of, same_key, guard_by};
 
-use crate::protectors::Memory;
+use std::alloc::AllocError;
 use std::collections::HashMap;
 use tb_perm::{Guard, Prov};
 
@@ -31,13 +31,13 @@ pub fn guard_of(index: &HashMap<Key, Guard>, prov: Prov) -> Guard
 }
 
 /// Enters a provenance. After want of memory the index is as it was.
-pub fn enter(index: &mut HashMap<Key, Guard>, prov: Prov, guard: Guard) -> Result<(), Memory>
+pub fn enter(index: &mut HashMap<Key, Guard>, prov: Prov, guard: Guard) -> Result<(), AllocError>
     ensures ok { OnOk result ((key : ℕ × ℕ) → get same_key index.new key ≡ cond (same_key (key_of prov) key) (Some guard) (get same_key index.old key)) }
     ensures err { OnErr result (IsUnchanged index.old index.new) }
 {
     match index.insert(key_of(prov), guard) {
         Ok(_) => Ok(()),
-        Err(_) => Err(Memory),
+        Err(_) => Err(AllocError),
     }
 }
 

@@ -9,4 +9,4 @@ mod index;
 mod protectors;
 mod stack;
 
-pub use protectors::{Memory, Protectors};
+pub use protectors::Protectors;

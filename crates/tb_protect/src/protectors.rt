@@ -7,14 +7,10 @@ ghost use Rattle.tb_protect.specs.Frames.{Guarded, kind_of, is_prov, is_in, top_
 
 use crate::index::{Key, enter, forget, guard_of};
 use crate::stack::top_provs;
-use std::alloc::Global;
+use std::alloc::{AllocError, Global};
 use std::collections::HashMap;
 use std::marker::Model;
 use tb_perm::{Guard, Prov};
-
-/// There was no memory.
-#[derive(Clone, Copy, Debug, PartialEq, Eq)]
-pub struct Memory;
 
 /// The guarded provenances of all calls that run. Contracts see them as a list of frames, the top one
 /// first, each the list of its provenances with their guards. No provenance stands twice, and no guard
@@ -44,7 +40,7 @@ impl Model for Protectors {
 
 impl Protectors {
     /// No frame at all.
-    pub fn new(alloc: Global) -> Result<Protectors, Memory>
+    pub fn new(alloc: Global) -> Result<Protectors, AllocError>
         ensures { IfOk result (λ protectors. protectors ≡ []) }
     {
         Ok(Protectors {
@@ -55,19 +51,19 @@ impl Protectors {
     }
 
     /// Puts a frame without provenances on top. After want of memory nothing is changed.
-    pub fn push_frame(&mut self) -> Result<(), Memory>
+    pub fn push_frame(&mut self) -> Result<(), AllocError>
         ensures ok { OnOk result (self.new ≡ [] ∷ self.old) }
         ensures err { OnErr result (self.new ≡ self.old) }
     {
         match self.starts.push(self.provs.len()) {
             Ok(()) => Ok(()),
-            Err(_) => Err(Memory),
+            Err(_) => Err(AllocError),
         }
     }
 
     /// Adds a provenance, which no frame has yet, to the top frame, which is there. Its guard is not free.
     /// After want of memory nothing is changed.
-    pub fn protect(&mut self, prov: Prov, guard: Guard) -> Result<(), Memory>
+    pub fn protect(&mut self, prov: Prov, guard: Guard) -> Result<(), AllocError>
         requires frame { 0 < length self.old }
         requires guarded { guard ≢ Free }
         requires fresh { kind_of self.old prov ≡ Free }
@@ -77,7 +73,7 @@ impl Protectors {
     {
         match self.provs.reserve(1) {
             Ok(()) => {}
-            Err(_) => return Err(Memory),
+            Err(_) => return Err(AllocError),
         }
         enter(&mut self.index, prov, guard)?;
         match self.provs.push(prov) {

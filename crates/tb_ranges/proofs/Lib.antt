@@ -5,3 +5,6 @@ pub mod RunLaws
 pub mod Mapping
 pub mod Values
 pub mod SpliceLaws
+pub mod Cuts
+pub mod Reading
+pub mod Pairing

@@ -1,17 +1,19 @@
 -- How a range of values is mapped, run by run.
-use Rattle.std.proofs.Common.{◌≡◌, ℕ, zero, suc, ◌+◌, ◌-◌, ◌<◌, ◌≤◌, List, [], ◌∷◌, ◌++◌, length, take, drop, replicate, Some, None, ap, sym, ◌∙◌, subst, arith, append_assoc, append-nil}
-use Rattle.std.specs.List.{AllZip, slice_range, splice}
-use Rattle.std.proofs.lemmas.List.{take_all, drop_all, length-take-le, length-drop, nil_from_length}
+use Rattle.std.proofs.Common.{◌≡◌, ℕ, zero, suc, ◌+◌, ◌-◌, ◌<◌, ◌≤◌, List, [], ◌∷◌, ◌++◌, length, map, take, drop, replicate, get_or, refl, Some, None, ap, sym, ◌∙◌, subst, arith, append_assoc, append-nil}
+use Rattle.std.specs.List.{AllZip, AllByRecursion, slice_range}
+use Rattle.std.proofs.lemmas.List.{take_all, drop_all, length-take-le, length-drop, nil_from_length, take_more}
 use Rattle.std.proofs.Math.Seq.{take-add}
 use Rattle.tb_ranges.specs.declared.run.Run.{Run}
 use Rattle.tb_ranges.specs.Runs.{expanded, GoOn, AreRuns}
+use Rattle.tb_ranges.specs.Ranges.{cut}
 use Rattle.tb_ranges.specs.Pieces.{end_of, last_of, IsRebuilt, Adds, EndsIn, AddsMapped}
 use Rattle.tb_ranges.proofs.Lists.{slice_range-append}
 use Rattle.tb_ranges.proofs.Places.{front, expanded-take, expanded-drop, ends, begins, has_place, end_of-take, joined, expanded-append}
 use Rattle.tb_ranges.proofs.Growth.{last_of_all}
 use Rattle.tb_ranges.proofs.RunLaws.{StandsAt}
+use Rattle.tb_ranges.proofs.Values.{size_of}
 
-AllZip-append : {V : Type 0} (R : V → V → Type 0) (xs ys zs ws : List V) → AllZip R xs ys → AllZip R zs ws → AllZip R (xs ++ zs) (ys ++ ws)
+AllZip-append : {T V : Type 0} (R : T → V → Type 0) (xs : List T) (ys : List V) (zs : List T) (ws : List V) → AllZip R xs ys → AllZip R zs ws → AllZip R (xs ++ zs) (ys ++ ws)
 AllZip-append R [] [] zs ws first second = second
 AllZip-append R [] (y ∷ ys) zs ws first second = absurd first
 AllZip-append R (x ∷ xs) [] zs ws first second = absurd first
@@ -70,6 +72,11 @@ module _ {V : Type 0} (R : V → V → Type 0) where
 
       next : end_of 0 (take (at + 1 + 1) runs) ≡ end_of 0 (take (suc (at + 1)) runs)
       next = let e : at + 1 + 1 ≡ suc (at + 1) = omega arith in ap (λ n. end_of 0 (take n runs)) e
+
+-- the first ones of some runs are put behind others
+abbrev pub IsAddedTo : {V : Type 0} → ℕ → List (Run V) → List (Run V) → List (Run V) → ℕ → Type 0
+IsAddedTo {V} lo runs old out at =
+    (front : List (Run V)) (values : List V) → IsRebuilt front old lo values → IsRebuilt front out (lo + end_of 0 (take at runs)) (values ++ expanded (take at runs))
 
 -- the first of the new runs, and how they are completed
 module _ {V : Type 0} where
@@ -136,9 +143,60 @@ module _ {V : Type 0} where
       ∙ sym (take-add run.lo (lo - run.lo) (expanded runs))
       ∙ ap (λ n. take n (expanded runs)) whole
 
-  -- a part before a place, mapped values, and the part from another place on
-  pub spliced : (size first lo hi : ℕ) (runs : List (Run V)) (run : Run V) (values all : List V) → AreRuns size runs → StandsAt size runs first run → run.lo ≤ lo → lo ≤ run.hi → all ≡ ((expanded (take first runs) ++ replicate (lo - run.lo) run.value) ++ values) ++ drop hi (expanded runs) → all ≡ splice (expanded runs) lo hi values
-  spliced size first lo hi runs run values all are stands above below is =
-      is
-      ∙ ap (λ xs. (xs ++ values) ++ drop hi (expanded runs)) (before size first lo runs run are stands above below)
-      ∙ append_assoc (take lo (expanded runs)) values (drop hi (expanded runs))
+  -- the values before a place of a run, in its two parts
+  pub opened : (size first start lo : ℕ) (runs out : List (Run V)) (run : Run V) → AreRuns size runs → StandsAt size runs first run → run.lo ≤ lo → lo ≤ run.hi → IsRebuilt (take start runs) out lo (expanded (take first runs) ++ replicate (lo - run.lo) run.value) → IsRebuilt (take start runs) out lo (take lo (expanded runs))
+  opened size first start lo runs out run are stands above below built =
+      subst (IsRebuilt (take start runs) out lo) (before size first lo runs run are stands above below) built
+
+-- other runs put behind
+module _ {V : Type 0} where
+  pub added_none : (lo : ℕ) (runs old : List (Run V)) → IsAddedTo lo runs old old 0
+  added_none lo runs old front values was =
+      let here : lo ≡ lo + 0 = omega arith in
+      subst (λ n. IsRebuilt front old n (values ++ [])) here (subst (IsRebuilt front old lo) (sym (append-nil values)) was)
+
+  pub added_more : (size lo at : ℕ) (runs old out new : List (Run V)) (run : Run V) → AreRuns size runs → at < length runs → StandsAt size runs at run → IsAddedTo lo runs old out at → Adds (lo + run.lo) (lo + run.hi) run.value out new → IsAddedTo lo runs old new (at + 1)
+  added_more size lo at runs old out new run are within stands added adds front values was =
+      let row = replicate (run.hi - run.lo) run.value in
+      let whole : take (at + 1) runs ≡ take at runs ++ run ∷ [] = stands.next in
+      let many : (lo + run.hi) - (lo + run.lo) ≡ run.hi - run.lo = omega arith in
+      let from : lo + end_of 0 (take at runs) ≡ lo + run.lo = omega (arith, stands.from) in
+      let to : lo + run.hi ≡ lo + end_of 0 (take (at + 1) runs) = omega (arith, stands.to) in
+      let all : (values ++ expanded (take at runs)) ++ row ≡ values ++ expanded (take (at + 1) runs) =
+      append_assoc values (expanded (take at runs)) row
+      ∙ ap (λ xs. values ++ xs) (ap (λ xs. expanded (take at runs) ++ xs) (sym (append-nil row)) ∙ sym (expanded-append (take at runs) (run ∷ [])) ∙ ap expanded (sym whole))
+      in
+      let built = adds front (values ++ expanded (take at runs)) (subst (λ n. IsRebuilt front out n (values ++ expanded (take at runs))) from (added front values was)) in
+      subst (λ n. IsRebuilt front new n (values ++ expanded (take (at + 1) runs))) to
+      (subst (IsRebuilt front new (lo + run.hi)) all (subst (λ n. IsRebuilt front new (lo + run.hi) ((values ++ expanded (take at runs)) ++ replicate n run.value)) many built))
+
+  pub added_all : (size lo at : ℕ) (runs old out : List (Run V)) → AreRuns size runs → length runs ≤ at → IsAddedTo lo runs old out at → (front : List (Run V)) (values : List V) → IsRebuilt front old lo values → IsRebuilt front out (lo + length (expanded runs)) (values ++ expanded runs)
+  added_all size lo at runs old out are past added front values was =
+      let all = take_all at runs past in
+      let end : lo + end_of 0 (take at runs) ≡ lo + length (expanded runs) = omega (arith, ap (end_of 0) all, ends None 0 size runs are, size_of size runs are) in
+      subst (λ n. IsRebuilt front out n (values ++ expanded runs)) end (subst (λ xs. IsRebuilt front out (lo + end_of 0 (take at runs)) (values ++ expanded xs)) all (added front values was))
+
+-- one more item, with a place of its own
+pub collected : {T V : Type 0} (R : T → V → Type 0) (items : List T) (at : ℕ) (item : T) (value : V) (old new : List (Run V)) → at < length items → item ≡ get_or items at item → R item value → AreRuns at old × AllZip R (take at items) (expanded old) → Adds at (at + 1) value old new → AreRuns (at + 1) new × AllZip R (take (at + 1) items) (expanded new)
+collected R items at item value old new within is made was adds =
+    let one : at + 1 - at ≡ 1 = omega arith in
+    let built = adds [] (expanded old) (record { opens = λ e. refl; runs = was.0; has = refl }) in
+    let values : expanded new ≡ expanded old ++ value ∷ [] = built.has ∙ ap (λ n. expanded old ++ replicate n value) one in
+    let front : take (at + 1) items ≡ take at items ++ item ∷ [] = take_more items at item within ∙ ap (λ x. take at items ++ x ∷ []) (sym is) in
+    (built.runs, subst (λ xs. AllZip R xs (expanded new)) (sym front) (subst (AllZip R (take at items ++ item ∷ [])) (sym values) (AllZip-append R (take at items) (expanded old) (item ∷ []) (value ∷ []) was.1 (made, tt))))
+
+all_push : {A : Type 0} (P : A → Type 0) (xs : List A) (x : A) → AllByRecursion P xs → P x → AllByRecursion P (xs ++ x ∷ [])
+all_push P [] x all here = (here, tt)
+all_push P (y ∷ ys) x all here = (all.0, all_push P ys x all.1 here)
+
+pub fixed_more : {V : Type 0} (P : Run V → Type 0) (runs : List (Run V)) (at : ℕ) (run : Run V) → at < length runs → run ≡ get_or runs at run → P run → AllByRecursion P (take at runs) → AllByRecursion P (take (at + 1) runs)
+fixed_more P runs at run within is here all =
+    subst (AllByRecursion P) (sym (take_more runs at run within ∙ ap (λ x. take at runs ++ x ∷ []) (sym is))) (all_push P (take at runs) run all here)
+
+-- values of runs that are mapped to themselves
+pub fixed : {V : Type 0} (R : V → V → Type 0) (lo hi : ℕ) (runs : List (Run V)) → AllByRecursion (λ (run : Run V). R run.value run.value) runs → AllZip R (expanded (map (cut lo hi) runs)) (expanded (map (cut lo hi) runs))
+fixed R lo hi [] all = tt
+fixed R lo hi (run ∷ runs) all =
+    let row = replicate ((cut lo hi run).hi - (cut lo hi run).lo) run.value in
+    let rest = expanded (map (cut lo hi) runs) in
+    AllZip-append R row row rest rest (AllZip-replicate R ((cut lo hi run).hi - (cut lo hi run).lo) run.value run.value all.0) (fixed R lo hi runs all.1)

@@ -1,12 +1,20 @@
 -- What the runs say of the list of values.
-use Rattle.std.proofs.Common.{◌≡◌, ℕ, zero, suc, ◌+◌, ◌-◌, ◌<◌, ◌≤◌, List, [], ◌∷◌, ◌++◌, length, map, take, drop, replicate, Some, None, refl, ap, sym, ◌∙◌, subst, arith, length-append}
+use Rattle.std.proofs.Common.{◌≡◌, ℕ, zero, suc, ◌+◌, ◌-◌, ◌<◌, ◌≤◌, List, [], ◌∷◌, ◌++◌, length, map, take, drop, replicate, Some, None, refl, ap, sym, ◌∙◌, subst, arith, length-append, append_assoc}
 use Rattle.std.specs.List.{AllZip, slice_range, slice_get, splice}
-use Rattle.std.proofs.lemmas.List.{length-take-le, length-drop, take_all, drop_all, append-nil}
+use Rattle.std.proofs.lemmas.List.{length-take-le, length-drop, take_all, drop_all, append-nil, take-append-drop}
+use Rattle.std.proofs.Math.Seq.{take-add}
 use Rattle.std.proofs.lemmas.Slice.Zip.{AllZip-long}
 use Rattle.tb_ranges.specs.declared.run.Run.{Run}
 use Rattle.tb_ranges.specs.Runs.{expanded, AreRuns, MapsRange}
 use Rattle.tb_ranges.proofs.Places.{length-expanded}
 use Rattle.tb_ranges.proofs.RunLaws.{StandsAt}
+
+-- where a relation is a function, that function is mapped
+pub AllZip-map : {T V : Type 0} (R : T → V → Type 0) (g : T → V) (xs : List T) (ys : List V) → ((x : T) (y : V) → R x y → y ≡ g x) → AllZip R xs ys → ys ≡ map g xs
+AllZip-map R g [] [] by all = refl
+AllZip-map R g [] (y ∷ ys) by all = absurd all
+AllZip-map R g (x ∷ xs) [] by all = absurd all
+AllZip-map R g (x ∷ xs) (y ∷ ys) by all = rw (by x y all.0, AllZip-map R g xs ys by all.1) refl
 
 module _ {V : Type 0} where
   pub size_of : (size : ℕ) (runs : List (Run V)) → AreRuns size runs → length (expanded runs) ≡ size
@@ -32,13 +40,6 @@ module _ {V : Type 0} where
       ∙ ap (λ xs. slice_get xs 0) (stands.rest at above (omega arith))
       ∙ first_is (run.hi - at) run.value (expanded (drop (k + 1) runs)) (omega arith)
 
-  -- where the relation is a function, that function is mapped
-  pub AllZip-by : (R : V → V → Type 0) (g : V → V) (xs ys : List V) → ((x y : V) → R x y → y ≡ g x) → AllZip R xs ys → ys ≡ map g xs
-  AllZip-by R g [] [] by all = refl
-  AllZip-by R g [] (y ∷ ys) by all = absurd all
-  AllZip-by R g (x ∷ xs) [] by all = absurd all
-  AllZip-by R g (x ∷ xs) (y ∷ ys) by all = rw (by x y all.0, AllZip-by R g xs ys by all.1) refl
-
   length-slice_range : (xs : List V) (lo hi : ℕ) → hi ≤ length xs → length (slice_range xs lo hi) ≡ hi - lo
   length-slice_range xs lo hi within = omega (arith, length-take-le (hi - lo) (drop lo xs) (omega (arith, length-drop lo xs)))
 
@@ -52,7 +53,7 @@ module _ {V : Type 0} where
       ap length maps.1 ∙ length-splice old maps.0 lo hi order within many
 
   pub mapped_by : (R : V → V → Type 0) (lo hi : ℕ) (old new : List V) → MapsRange R lo hi old new → (g : V → V) → ((x y : V) → R x y → y ≡ g x) → new ≡ splice old lo hi (map g (slice_range old lo hi))
-  mapped_by R lo hi old new maps g by = maps.1 ∙ ap (splice old lo hi) (AllZip-by R g (slice_range old lo hi) maps.0 by maps.2)
+  mapped_by R lo hi old new maps g by = maps.1 ∙ ap (splice old lo hi) (AllZip-map R g (slice_range old lo hi) maps.0 by maps.2)
 
   map_same : (v : V) (xs : List V) → map (λ (x : V). v) xs ≡ replicate (length xs) v
   map_same v [] = refl
@@ -77,3 +78,15 @@ module _ {V : Type 0} where
   pub map_of_all : (size : ℕ) (old new : List V) (g : V → V) → size ≡ length old → new ≡ splice old 0 size (map g (slice_range old 0 size)) → new ≡ map g old
   map_of_all size old new g is e =
       e ∙ splice_all size old (map g (slice_range old 0 size)) is ∙ ap (map g) (slice_all size old is)
+
+  -- the values that are there
+  pub spliced_back : (lo hi : ℕ) (xs : List V) → lo ≤ hi → xs ≡ splice xs lo hi (slice_range xs lo hi)
+  spliced_back lo hi xs order =
+      let there : lo + (hi - lo) ≡ hi = omega arith in
+      sym
+      (sym (append_assoc (take lo xs) (slice_range xs lo hi) (drop hi xs))
+      ∙ ap (λ front. front ++ drop hi xs) (sym (take-add lo (hi - lo) xs) ∙ ap (λ n. take n xs) there)
+      ∙ take-append-drop hi xs)
+
+  pub length-over : (lo hi : ℕ) (xs ys : List V) → hi ≤ length xs → hi ≡ lo + length ys → length (splice xs lo hi ys) ≡ length xs
+  length-over lo hi xs ys within long = length-splice xs ys lo hi (omega arith) within (omega arith)

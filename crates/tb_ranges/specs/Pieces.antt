@@ -1,5 +1,5 @@
 -- How a list of runs is changed, piece by piece.
-use Rattle.std.specs.Prelude.{◌≡◌, ℕ, ◌-◌, List, [], ◌∷◌, ◌++◌, length, replicate, drop, Option, Some, None}
+use Rattle.std.specs.Prelude.{◌≡◌, ℕ, ◌+◌, ◌-◌, List, [], ◌∷◌, ◌++◌, length, replicate, drop, Option, Some, None}
 use Rattle.std.specs.List.{AllZip, slice_range}
 use Rattle.tb_ranges.specs.declared.run.Run.{Run}
 use Rattle.tb_ranges.specs.Runs.{expanded, AreRuns, MapsRange}
@@ -30,6 +30,11 @@ pub record IsRebuilt {V : Type 0} (front out : List (Run V)) (at : ℕ) (values 
 abbrev pub Adds : {V : Type 0} → ℕ → ℕ → V → List (Run V) → List (Run V) → Type 0
 Adds {V} lo hi value old new =
     (front : List (Run V)) (values : List V) → IsRebuilt front old lo values → IsRebuilt front new hi (values ++ replicate (hi - lo) value)
+
+-- the new runs have in addition, from `lo` on, the values of other runs
+abbrev pub AddsAll : {V : Type 0} → ℕ → List (Run V) → List (Run V) → List (Run V) → Type 0
+AddsAll {V} lo runs old new =
+    (front : List (Run V)) (values : List V) → IsRebuilt front old lo values → IsRebuilt front new (lo + length (expanded runs)) (values ++ expanded runs)
 
 -- the last run has the value
 abbrev pub EndsIn : {V : Type 0} → V → List (Run V) → Type 0

@@ -2,10 +2,14 @@
 //! list of the values.
 #![tactic(auto)]
 
+mod pairs;
 mod patch;
 mod pieces;
+mod range;
+mod reader;
 mod run;
 mod runs;
 
+pub use reader::Reader;
 pub use run::Run;
-pub use runs::{Memory, Runs};
+pub use runs::Runs;

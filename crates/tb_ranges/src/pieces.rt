@@ -1,15 +1,16 @@
 //! Lists of runs: which run has a place, and runs that are put behind others.
 
-ghost use Rattle.std.specs.Prelude.{◌≡◌, ◌≢◌, ◌≤◌, ◌<◌, ◌+◌, false, length, replicate, take, None, Some, IsTrue, IfOk, OnOk};
+ghost use Rattle.std.specs.Prelude.{◌≡◌, ◌≢◌, ◌≤◌, ◌<◌, ◌+◌, ◌^◌, false, length, replicate, take, None, Some, IsTrue, IfOk, OnOk};
+ghost use Rattle.std.specs.List.{AllZip};
+ghost use Rattle.std.specs.Fn.{FnReturnsAt};
 ghost use Rattle.tb_ranges.specs.Runs.{expanded, AreRuns, IsExact};
 ghost use Rattle.tb_ranges.specs.Pieces.{end_of, last_of, stretched, Adds, EndsIn};
 
 use crate::run::Run;
-use crate::runs::Memory;
-use std::alloc::Global;
+use std::alloc::{AllocError, Global};
 
 /// The runs of one value at all places.
-pub fn whole<V>(alloc: Global, size: u32, value: V) -> Result<Vec<Run<V>>, Memory>
+pub fn whole<V>(alloc: Global, size: u32, value: V) -> Result<Vec<Run<V>>, AllocError>
 where
     V: Copy,
     ensures runs { IfOk result (λ runs. AreRuns size runs.items) }
@@ -26,7 +27,7 @@ where
     };
     match runs.push(run) {
         Ok(()) => Ok(runs),
-        Err(_) => Err(Memory),
+        Err(_) => Err(AllocError),
     }
 }
 
@@ -41,6 +42,36 @@ pub fn find_run<V>(runs: &[Run<V>], at: u32) -> usize
     runs.partition_point(|run| run.hi <= at)
 }
 
+/// Where runs end, 0 for none.
+pub fn end_of_runs<V>(runs: &[Run<V>]) -> u32
+    requires { AreRuns (length (expanded runs.now)) runs.now }
+    ensures { result ≡ length (expanded runs.now) }
+{
+    match runs.last() {
+        Some(last) => last.hi,
+        None => 0,
+    }
+}
+
+/// The runs of what `f` makes of some items, a place for each.
+pub fn runs_of<T, V: Copy + Eq, F: Fn(&T) -> V>(
+    alloc: Global,
+    items: &[T],
+    f: F,
+) -> Result<Vec<Run<V>>, AllocError>
+    requires exact { IsExact V.eq }
+    requires callable { F.IsAlwaysCallable f }
+    requires few { length items.now < 2 ^ 32 }
+    ensures runs { IfOk result (λ runs. AreRuns (length items.now) runs.items) }
+    ensures values { IfOk result (λ runs. AllZip (FnReturnsAt F.Fn f) items.now (expanded runs.items)) }
+{
+    let mut runs = Vec::new(alloc);
+    for at in 0..items.len() {
+        push_run(&mut runs, at as u32, at as u32 + 1, f(&items[at]))?;
+    }
+    Ok(runs)
+}
+
 /// Puts a value at the places from `lo` to before `hi` behind runs that end at `lo`, as a run of its
 /// own or as a part of the last.
 pub fn push_run<V: Copy + Eq>(
@@ -48,7 +79,7 @@ pub fn push_run<V: Copy + Eq>(
     lo: u32,
     hi: u32,
     value: V,
-) -> Result<(), Memory>
+) -> Result<(), AllocError>
     requires exact { IsExact V.eq }
     requires order { lo ≤ hi }
     ensures adds { OnOk result (Adds lo hi value out.old.items out.new.items) }
@@ -63,7 +94,7 @@ pub fn push_run<V: Copy + Eq>(
     }
     match out.push(Run { lo, hi, value }) {
         Ok(()) => Ok(()),
-        Err(_) => Err(Memory),
+        Err(_) => Err(AllocError),
     }
 }
 

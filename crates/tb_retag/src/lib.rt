@@ -7,4 +7,4 @@
 
 mod places;
 
-pub use places::{Memory, place};
+pub use places::place;

@@ -6,20 +6,6 @@ use std::alloc::{AllocError, Global};
 use tb_mir::{Block, Func, Line, Local, Mir, MirLine, Rvalue};
 use tb_perm::Span;
 
-/// Memory ran out.
-#[derive(Clone, Copy, Debug, PartialEq, Eq)]
-pub struct Memory;
-
-impl From<AllocError> for Memory {
-    ghost use Rattle.std.specs.Prelude.{⊤};
-
-    ghost from_gives = { λ _ _. ⊤ };
-
-    fn from(_: AllocError) -> Memory {
-        Memory
-    }
-}
-
 /// Whether a pointer that this local is given is retagged.
 fn is_retagged(locals: &[Local], local: u32) -> bool
     ensures { result ≡ is_retagged (slice_get locals.now local) }
@@ -156,8 +142,8 @@ fn placed(alloc: Global, mir: &Mir) -> Result<Mir, AllocError>
 ///
 /// # Errors
 ///
-/// `Memory` where the allocator has no room; the program is then as before.
-pub fn place(alloc: Global, mir: &mut Mir) -> Result<(), Memory>
+/// `AllocError` where memory runs out; the program is then as before.
+pub fn place(alloc: Global, mir: &mut Mir) -> Result<(), AllocError>
     ensures placed { OnOk result (RetagPlaced mir.new) }
     ensures same { OnOk result (without_retags mir.new ≡ without_retags mir.old) }
     ensures kept { OnErr result (mir.new ≡ mir.old) }

@@ -36,7 +36,7 @@ pub record GoesOn (old new : Held) (before after : SeenOut) (bytes : List ℕ) :
   pub steps : new.steps ≡ old.steps + 1
   pub put : PutsWhole before after bytes
 
--- What a call answers for a step: the step's own turn, or a failed write after a prefix of its bytes, or want of
+-- What a call returns for a step: the step's own turn, or a failed write after a prefix of its bytes, or out of
 -- memory.
 abbrev pub Answers : Step → Held → Held → SeenOut → SeenOut → Turn → Type 0
 Answers (Goes state bytes) old new before after turn.Goes = (new.state ≡ state) × GoesOn old new before after bytes
@@ -59,7 +59,7 @@ pub record RunsOut (run : Run) (before after : SeenOut) : Type 0 where
   pub told : GrewByPrefix before.bytes after.bytes run.printed
   pub calm : after.faults ≡ before.faults
 
--- what a call answers for a run
+-- what a call returns for a run
 abbrev pub RunsAs : Run → SeenOut → SeenOut → Outcome → Type 0
 RunsAs run before after WriteFault = PutsFront before after run.printed
 RunsAs run before after Memory = RunsOut run before after

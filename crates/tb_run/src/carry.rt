@@ -226,7 +226,7 @@ fn tell(
     }
 }
 
-/// Carries out a line that prints nothing, or answers how it ends the run.
+/// Carries out a line that prints nothing, or returns how it ends the run.
 fn act<T: BorrowTree, L: Ledger>(
     heap: &mut Heap<T>,
     locals: &mut Items<Slot>,
@@ -255,7 +255,7 @@ fn act<T: BorrowTree, L: Ledger>(
     }
 }
 
-/// Carries out a line: answers the bytes that it prints, or how it ends the run.
+/// Carries out a line: returns the bytes that it prints, or how it ends the run.
 #[tactic(auto, using(crate::proofs::Brought::line_ends))]
 pub fn carry<T: BorrowTree, L: Ledger>(
     alloc: Global,

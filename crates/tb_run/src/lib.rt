@@ -5,5 +5,5 @@ mod carry;
 mod machine;
 mod runs;
 
-pub use machine::{Machine, Memory, Turn};
+pub use machine::{Machine, Turn};
 pub use runs::run;

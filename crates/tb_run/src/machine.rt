@@ -13,10 +13,6 @@ use tb_heap::Heap;
 use tb_mir::{Local, LocalKind, Mir};
 use tb_perm::{BorrowTree, Steps};
 
-/// Memory ran out.
-#[derive(Clone, Copy, Debug, PartialEq, Eq)]
-pub struct Memory;
-
 /// What a step comes to.
 #[derive(Clone, Copy, Debug, PartialEq, Eq)]
 pub enum Turn {
@@ -73,12 +69,12 @@ impl<T: BorrowTree> Machine<T> {
     ghost use Rattle.tb_run.specs.declared.machine.Turn.TheVariants as turn;
 
     /// A machine before the first line of the first function, which is `main`.
-    pub fn start(alloc: Global, mir: &Mir) -> Result<Machine<T>, Memory>
+    pub fn start(alloc: Global, mir: &Mir) -> Result<Machine<T>, AllocError>
         ensures first { IfOk result (λ machine. machine ≡ record { state = first_state mir.now; steps = 0 }) }
         ensures sound { IfOk result (λ machine. IsSoundState machine.state) }
     {
         let Ok(locals) = first_of(alloc, mir.locals(0)) else {
-            return Err(Memory);
+            return Err(AllocError);
         };
         Ok(Machine {
             alloc,

@@ -1,5 +1,5 @@
-//! Tests of lowering, of runs and of the whole program: `tb_mir`, `tb_eval`, `tb_lower`, `tb_retag`, `tb_run`, `tb_diag` and
-//! `tb_top`.
+//! Tests of lowering and of runs: `tb_mir`, `tb_eval`, `tb_lower`, `tb_retag`, `tb_run` and `tb_diag`. Whole programs are cases of
+//! `tb_cases`.
 //!
 //! They stand above those crates, since a crate with tests of its own is proved twice.
 #![tactic(auto)]
@@ -10,10 +10,6 @@ mod lines;
 mod lowering;
 #[cfg(test)]
 mod machines;
-#[cfg(test)]
-mod programs;
-#[cfg(test)]
-mod references;
 #[cfg(test)]
 mod reports;
 #[cfg(test)]

@@ -2,11 +2,11 @@
 use Rattle.std.proofs.Common.{◌≡◌, ◌∙◌, ◌≢◌, ◌⊎◌, ℕ, suc, ◌<◌, Bool, true, false, cond, not, List, [], ◌∷◌, length, map, refl, ap, sym, subst, arith, Option, Some, None, inl, inr, nat_lt, ◌==◌, filter, insert, remove}
 use Rattle.std.specs.Prelude.{option_map, option_and_then}
 use Rattle.std.specs.List.{AllByRecursion}
-use Rattle.std.proofs.lemmas.Bool.{eqb-true, eq-eqb, ltb-true, ltb-false, cases_eq}
+use Rattle.std.proofs.lemmas.Bool.{eqb-true, eq-eqb, ltb-true, ltb-false, cases_eq, ne_eqb}
 use Rattle.tb_shape.specs.declared.entries.Entry.{Entry}
 use Rattle.tb_shape.specs.Entries.{IsRising, place_of, entry_of, is_entry, tree_of, pair_of, reparented}
 use Rattle.tb_shape.specs.Tree.{parent_of, is_child_of, with_child, without, moved_up}
-use Rattle.tb_shape.proofs.Search.{unlike, below_all}
+use Rattle.tb_shape.proofs.Search.{below_all}
 use Rattle.tb_shape.proofs.Climb.{find-tree_of}
 
 -- the entries with a further one at its place
@@ -118,7 +118,7 @@ entry_of-dropped key (x ∷ xs) q = at (entry_of-dropped key xs q) (cases_eq x.k
         skip true c h = refl
         skip false false h = refl
         skip false true h = cc
-    at later (inr differs) = rw (unlike x.key key differs) (ap (cond (x.key == q) (Some x)) later ∙ swapped (x.key == q) (key == q) (λ one other. differs (eqb-true _ _ one ∙ sym (eqb-true _ _ other))))
+    at later (inr differs) = rw (ne_eqb x.key key differs) (ap (cond (x.key == q) (Some x)) later ∙ swapped (x.key == q) (key == q) (λ one other. differs (eqb-true _ _ one ∙ sym (eqb-true _ _ other))))
       where
         swapped : (b c : Bool) → (b ≡ true → c ≡ true → ⊥) → cond b (Some x) (cond c None (entry_of xs q)) ≡ cond c None (cond b (Some x) (entry_of xs q))
         swapped true true never = absurd (never refl refl)
@@ -143,7 +143,7 @@ IsRising-dropped key (x ∷ xs) rising = at (IsRising-dropped key xs rising.1) (
 
 dropped_none : (key : ℕ) (xs : List Entry) → AllByRecursion (λ (later : Entry). key < later.key) xs → dropped key xs ≡ xs
 dropped_none key [] all = refl
-dropped_none key (x ∷ xs) all = rw (unlike x.key key (omega (arith, all.0))) (ap (λ zs. x ∷ zs) (dropped_none key xs all.1))
+dropped_none key (x ∷ xs) all = rw (ne_eqb x.key key (omega (arith, all.0))) (ap (λ zs. x ∷ zs) (dropped_none key xs all.1))
 
 -- a key that is there stands at its place
 pub remove-dropped : (key : ℕ) (e : Entry) (xs : List Entry) → IsRising xs → entry_of xs key ≡ Some e → (place_of key xs < length xs) × (remove xs (place_of key xs) ≡ dropped key xs)
@@ -153,12 +153,12 @@ remove-dropped key e (x ∷ xs) rising is = at (remove-dropped key e xs rising.1
     at : (entry_of xs key ≡ Some e → (place_of key xs < length xs) × (remove xs (place_of key xs) ≡ dropped key xs)) → (b : Bool) → nat_lt x.key key ≡ b → (x.key ≡ key) ⊎ (x.key ≢ key) → (cond b (suc (place_of key xs)) 0 < suc (length xs)) × (remove (x ∷ xs) (cond b (suc (place_of key xs)) 0) ≡ cond (not (x.key == key)) (x ∷ dropped key xs) (dropped key xs))
     at later true less (inl same) = absurd (omega (arith, ltb-true _ _ less))
     at later true less (inr differs) =
-        let rest = later (rw (unlike x.key key differs) at is) in
-        rw (unlike x.key key differs) (omega (arith, rest.0), ap (λ zs. x ∷ zs) rest.1)
+        let rest = later (rw (ne_eqb x.key key differs) at is) in
+        rw (ne_eqb x.key key differs) (omega (arith, rest.0), ap (λ zs. x ∷ zs) rest.1)
     at later false less (inl same) = rw (eq-eqb x.key key same) (omega arith, sym (dropped_none key xs (subst (λ k. AllByRecursion (λ (later : Entry). k < later.key) xs) same rising.0)))
     at later false less (inr differs) =
         let more : key < x.key = omega (arith, ltb-false _ _ less) in
-        let clash : None ≡ Some e = sym (below_all key xs (above_more key x.key xs more rising.0)) ∙ (rw (unlike x.key key differs) at is) in
+        let clash : None ≡ Some e = sym (below_all key xs (above_more key x.key xs more rising.0)) ∙ (rw (ne_eqb x.key key differs) at is) in
         cc
 
 pub tree_of-reparented : (old : ℕ) (new : Option ℕ) (xs : List Entry) → tree_of (map (reparented old new) xs) ≡ map (moved_up old new) (tree_of xs)
@@ -224,7 +224,7 @@ child_false key o is same = let clash : false ≡ true = sym is ∙ true_child k
 
 pub false_child : (key : ℕ) (o : Option ℕ) → o ≢ Some key → is_child_of key o ≡ false
 false_child key None differs = refl
-false_child key (Some p) differs = unlike p key (λ same. differs (ap Some same))
+false_child key (Some p) differs = ne_eqb p key (λ same. differs (ap Some same))
 
 -- what was mapped to something was there
 pub map_some : {X : Type 0} (h : X → X) (o : Option X) (y : X) → option_map h o ≡ Some y → (x : X) × (o ≡ Some x) × (h x ≡ y)

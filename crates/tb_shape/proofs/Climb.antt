@@ -2,12 +2,11 @@
 use Rattle.std.proofs.Common.{◌≡◌, ◌∙◌, ◌≢◌, ◌||◌, ◌++◌, ℕ, suc, zero, ◌<◌, Bool, true, false, cond, List, [], ◌∷◌, refl, ap, sym, subst, arith, Option, Some, None, ◌==◌, IsTrue}
 use Rattle.std.specs.Prelude.{find, option_map, MatchOption, ⊤}
 use Rattle.std.specs.List.{list_any}
-use Rattle.std.proofs.lemmas.Bool.{eqb-true, eq-eqb}
+use Rattle.std.proofs.lemmas.Bool.{eqb-true, eq-eqb, ne_eqb, or_right}
 use Rattle.std.proofs.lemmas.List.{append_assoc, append-nil}
 use Rattle.tb_shape.specs.declared.entries.Entry.{Entry}
 use Rattle.tb_shape.specs.Entries.{entry_of, pair_of, tree_of, AreHung}
 use Rattle.tb_shape.specs.Tree.{Keys, is_key, HasKey, parent_of, IsPath, IsAncestor}
-use Rattle.tb_shape.proofs.Search.{unlike}
 
 pub none_from : {A : Type 0} (o : Option A) → ((x : A) → o ≡ Some x → ⊥) → o ≡ None
 none_from None never = refl
@@ -58,11 +57,7 @@ ancestor_self tree key (k ∷ next ∷ path) is = (k ∷ next ∷ path, is, rw (
 
 -- the ancestors of a key are it and those of its parent
 pub ancestor_up : (tree : Keys) (a key parent : ℕ) → parent_of tree key ≡ Some parent → IsAncestor tree a parent → IsAncestor tree a key
-ancestor_up tree a key parent up is = (key ∷ is.0, path_up tree key parent is.0 up is.1, or_later _ _ is.2)
-  where
-    or_later : (b c : Bool) → c ≡ true → (b || c) ≡ true
-    or_later true c h = refl
-    or_later false c h = h
+ancestor_up tree a key parent up is = (key ∷ is.0, path_up tree key parent is.0 up is.1, or_right _ _ is.2)
 
 pub ancestor_down : (tree : Keys) (a key parent : ℕ) → key ≢ a → parent_of tree key ≡ Some parent → IsAncestor tree a key → IsAncestor tree a parent
 ancestor_down tree a key parent differs up is = down is.0 is.1 is.2
@@ -76,7 +71,7 @@ ancestor_down tree a key parent differs up is = down is.0 is.1 is.2
     down (k ∷ []) is has = absurd (let clash : Some parent ≡ None = sym up ∙ is.2 in cc)
     down (k ∷ next ∷ path) is has =
         let same : next ≡ parent = let both : Some next ≡ Some parent = sym is.1 ∙ up in cc in
-        let head : (k == a) ≡ false = rw is.0 (unlike key a differs) in
+        let head : (k == a) ≡ false = rw is.0 (ne_eqb key a differs) in
         (next ∷ path, subst (λ n. IsPath tree n (next ∷ path)) same is.2, later (k == a) _ head has)
 
 -- a root has no ancestor but itself
@@ -86,7 +81,7 @@ ancestor_top tree a key differs top is = none is.0 is.1 is.2
     none : (path : List ℕ) → IsPath tree key path → IsTrue (list_any (λ k. k == a) path) → ⊥
     none [] is has = is
     none (k ∷ []) is has =
-        let head : (k == a) ≡ false = rw is.0 (unlike key a differs) in
+        let head : (k == a) ≡ false = rw is.0 (ne_eqb key a differs) in
         let clash : false ≡ true = rw head at has in cc
     none (k ∷ next ∷ path) is has = let clash : Some next ≡ None = sym is.1 ∙ top in cc
 

@@ -1,7 +1,7 @@
 -- Adding a key, dropping a leaf and splicing a key out keep what is true of every `Shape`.
 use Rattle.std.proofs.Common.{◌≡◌, ◌∙◌, ◌≢◌, ◌⊎◌, ℕ, ◌+◌, ◌<◌, Bool, true, false, cond, List, [], ◌∷◌, map, refl, ap, sym, subst, arith, Option, Some, None, inl, inr, ◌==◌, zero-add}
 use Rattle.std.specs.Prelude.{option_map, MatchOption, ⊤}
-use Rattle.std.proofs.lemmas.Bool.{eq-eqb, cases_eq}
+use Rattle.std.proofs.lemmas.Bool.{eq-eqb, cases_eq, ne_eqb}
 use Rattle.slab.specs.Slab.{Slab, get, Updates}
 use Rattle.tb_shape.specs.declared.entries.Entry.{Entry}
 use Rattle.tb_shape.specs.declared.nodes.Node.{Node}
@@ -9,7 +9,6 @@ use Rattle.tb_shape.specs.Entries.{AreHung, IsHung, entry_of, tree_of, reparente
 use Rattle.tb_shape.specs.Tree.{is_child_of, AreChildren}
 use Rattle.tb_shape.specs.Nodes.{count_of, ChangesNode, IsNodeOf}
 use Rattle.tb_shape.specs.Shape.{IsShape}
-use Rattle.tb_shape.proofs.Search.{unlike}
 use Rattle.tb_shape.proofs.Climb.{hung_up}
 use Rattle.tb_shape.proofs.Changes.{placed, dropped, up, parent_of-up, entry_of-placed, entry_of-dropped, entry_of-reparented, IsRising-placed, IsRising-dropped, IsRising-reparented, depth-reparented, slot-reparented, reparented_child, reparented_other, child_true, true_child, child_false, false_child, map_some}
 
@@ -36,7 +35,7 @@ kid_none xs q c hung missing = at (entry_of xs c) refl
     below e is (Some p) top =
         let h = hung_up xs c p e hung is top in
         let differs : p ≢ q = λ same. let clash : Some h.0 ≡ None = sym h.1 ∙ ap (entry_of xs) same ∙ missing in cc in
-        rw (unlike p q differs) refl
+        rw (ne_eqb p q differs) refl
 
     at : (o : Option Entry) → entry_of xs c ≡ o → cond {A = ℕ} (is_child_of q (up o)) 1 0 ≡ 0
     at None is = refl
@@ -88,7 +87,7 @@ relink xs ys nodes now p q f e slot more less at_p at_q is_p is_q is_slot change
           is_key = at_q.is_key;
           children = kid_children ys q at_q.node.children.items (λ c.
               let told = kids c in
-              let this = rw (unlike p q differs) at told in
+              let this = rw (ne_eqb p q differs) at told in
               omega (arith, children_kid xs q at_q.node.children.items at_q.children c, this));
         }
 
@@ -98,7 +97,7 @@ module _ (xs : List Entry) (x f : Entry) (p : ℕ) (hung : AreHung xs) (new : en
   p_differs same = let clash : Some f ≡ None = sym there ∙ ap (entry_of xs) same ∙ new in cc
 
   at_other : (q : ℕ) → x.key ≢ q → entry_of (placed x xs) q ≡ entry_of xs q
-  at_other q differs = entry_of-placed x xs q new ∙ ap (λ b. cond b (Some x) (entry_of xs q)) (unlike x.key q differs)
+  at_other q differs = entry_of-placed x xs q new ∙ ap (λ b. cond b (Some x) (entry_of xs q)) (ne_eqb x.key q differs)
 
   at_new : (q : ℕ) → x.key ≡ q → entry_of (placed x xs) q ≡ Some x
   at_new q same = entry_of-placed x xs q new ∙ ap (λ b. cond b (Some x) (entry_of xs q)) (eq-eqb x.key q same)
@@ -118,7 +117,7 @@ module _ (xs : List Entry) (x f : Entry) (p : ℕ) (hung : AreHung xs) (new : en
           ends false = refl
       at (inr differs) =
           let same_kid : kid (placed x xs) q c ≡ kid xs q c = ap (λ o. cond {A = ℕ} (is_child_of q (up o)) 1 0) (at_other c differs) in
-          let single : count_of c (x.key ∷ []) ≡ 0 = count_one x.key c ∙ ap (λ b. cond {A = ℕ} b 1 0) (unlike x.key c differs) in
+          let single : count_of c (x.key ∷ []) ≡ 0 = count_one x.key c ∙ ap (λ b. cond {A = ℕ} b 1 0) (ne_eqb x.key c differs) in
           rw (same_kid, single) refl
 
   AreHung-placed : f.depth < x.depth → AreHung (placed x xs)
@@ -168,7 +167,7 @@ IsShape-placed xs nodes mid now root p x f fresh is new is_parent there deeper c
               let none : kid xs key c ≡ 0 = kid_none xs key c is.hung (ap (entry_of xs) (sym same) ∙ new) in
               let told = kid_placed xs x f p is.hung new is_parent there key c in
               let differs : p ≢ key = λ equal. p_differs xs x f p is.hung new is_parent there (equal ∙ sym same) in
-              let this = rw (unlike p key differs) at told in
+              let this = rw (ne_eqb p key differs) at told in
               let empty : count_of c fresh.children.items ≡ 0 = ap (count_of c) no_children in
               omega (arith, none, this, empty));
         }
@@ -226,7 +225,7 @@ module _ (xs : List Entry) (key p : ℕ) (e f : Entry) (hung : AreHung xs) (is :
 -- dropping a leaf
 module _ (xs : List Entry) (key p : ℕ) (e f : Entry) (hung : AreHung xs) (is : entry_of xs key ≡ Some e) (is_parent : e.parent ≡ Some p) (there : entry_of xs p ≡ Some f) (leaf : (c : ℕ) (a : Entry) → entry_of xs c ≡ Some a → a.parent ≢ Some key) where
   left_other : (q : ℕ) → key ≢ q → entry_of (dropped key xs) q ≡ entry_of xs q
-  left_other q differs = entry_of-dropped key xs q ∙ ap (λ b. cond b None (entry_of xs q)) (unlike key q differs)
+  left_other q differs = entry_of-dropped key xs q ∙ ap (λ b. cond b None (entry_of xs q)) (ne_eqb key q differs)
 
   left_same : (q : ℕ) → key ≡ q → entry_of (dropped key xs) q ≡ None
   left_same q same = entry_of-dropped key xs q ∙ ap (λ b. cond b None (entry_of xs q)) (eq-eqb key q same)
@@ -246,7 +245,7 @@ module _ (xs : List Entry) (key p : ℕ) (e f : Entry) (hung : AreHung xs) (is :
           ends false = refl
       at (inr differs) =
           let same_kid : kid (dropped key xs) q c ≡ kid xs q c = ap (λ o. cond {A = ℕ} (is_child_of q (up o)) 1 0) (left_other c differs) in
-          let single : count_of c (key ∷ []) ≡ 0 = count_one key c ∙ ap (λ b. cond {A = ℕ} b 1 0) (unlike key c differs) in
+          let single : count_of c (key ∷ []) ≡ 0 = count_one key c ∙ ap (λ b. cond {A = ℕ} b 1 0) (ne_eqb key c differs) in
           rw (same_kid, single) refl
 
   AreHung-dropped : AreHung (dropped key xs)
@@ -295,7 +294,7 @@ IsShape-dropped xs nodes mid now root key p e f shape is is_parent there leaf ch
 -- splicing a key with one child
 module _ (xs : List Entry) (key p ch : ℕ) (e f g : Entry) (hung : AreHung xs) (is : entry_of xs key ≡ Some e) (is_parent : e.parent ≡ Some p) (there : entry_of xs p ≡ Some f) (child : entry_of xs ch ≡ Some g) (child_of : g.parent ≡ Some key) (single : (c : ℕ) (a : Entry) → entry_of xs c ≡ Some a → a.parent ≡ Some key → c ≡ ch) where
   spliced_other : (q : ℕ) → key ≢ q → entry_of (map (reparented key (Some p)) (dropped key xs)) q ≡ option_map (reparented key (Some p)) (entry_of xs q)
-  spliced_other q differs = entry_of-reparented key (Some p) (dropped key xs) q ∙ ap (option_map (reparented key (Some p))) (entry_of-dropped key xs q ∙ ap (λ b. cond b None (entry_of xs q)) (unlike key q differs))
+  spliced_other q differs = entry_of-reparented key (Some p) (dropped key xs) q ∙ ap (option_map (reparented key (Some p))) (entry_of-dropped key xs q ∙ ap (λ b. cond b None (entry_of xs q)) (ne_eqb key q differs))
 
   spliced_same : (q : ℕ) → key ≡ q → entry_of (map (reparented key (Some p)) (dropped key xs)) q ≡ None
   spliced_same q same = entry_of-reparented key (Some p) (dropped key xs) q ∙ ap (option_map (reparented key (Some p))) (entry_of-dropped key xs q ∙ ap (λ b. cond b None (entry_of xs q)) (eq-eqb key q same))
@@ -328,14 +327,14 @@ module _ (xs : List Entry) (key p ch : ℕ) (e f g : Entry) (hung : AreHung xs) 
       at_child differs (inl same) =
           let found : entry_of xs c ≡ Some g = ap (entry_of xs) (sym same) ∙ child in
           let now : kid (map (reparented key (Some p)) (dropped key xs)) q c ≡ cond (p == q) 1 0 = ap (λ o. cond {A = ℕ} (is_child_of q (up o)) 1 0) (spliced_other c differs ∙ ap (option_map (reparented key (Some p))) found) ∙ ap (λ o. cond {A = ℕ} (is_child_of q o) 1 0) (reparented_child key (Some p) g (true_child key g.parent child_of)) in
-          let was : kid xs q c ≡ 0 = ap (λ o. cond {A = ℕ} (is_child_of q (up o)) 1 0) found ∙ ap (λ o. cond {A = ℕ} (is_child_of q o) 1 0) child_of ∙ ap (λ b. cond {A = ℕ} b 1 0) (unlike key q away) in
-          let lost : count_of c (key ∷ []) ≡ 0 = count_one key c ∙ ap (λ b. cond {A = ℕ} b 1 0) (unlike key c differs) in
+          let was : kid xs q c ≡ 0 = ap (λ o. cond {A = ℕ} (is_child_of q (up o)) 1 0) found ∙ ap (λ o. cond {A = ℕ} (is_child_of q o) 1 0) child_of ∙ ap (λ b. cond {A = ℕ} b 1 0) (ne_eqb key q away) in
+          let lost : count_of c (key ∷ []) ≡ 0 = count_one key c ∙ ap (λ b. cond {A = ℕ} b 1 0) (ne_eqb key c differs) in
           let got : count_of c (ch ∷ []) ≡ 1 = count_one ch c ∙ ap (λ b. cond {A = ℕ} b 1 0) (eq-eqb ch c same) in
           rw (now, was, lost, got) (begins (p == q))
       at_child differs (inr other) =
           let now : kid (map (reparented key (Some p)) (dropped key xs)) q c ≡ kid xs q c = ap (λ o. cond {A = ℕ} (is_child_of q (up o)) 1 0) (spliced_other c differs) ∙ same_kid differs other (entry_of xs c) refl in
-          let lost : count_of c (key ∷ []) ≡ 0 = count_one key c ∙ ap (λ b. cond {A = ℕ} b 1 0) (unlike key c differs) in
-          let got : count_of c (ch ∷ []) ≡ 0 = count_one ch c ∙ ap (λ b. cond {A = ℕ} b 1 0) (unlike ch c other) in
+          let lost : count_of c (key ∷ []) ≡ 0 = count_one key c ∙ ap (λ b. cond {A = ℕ} b 1 0) (ne_eqb key c differs) in
+          let got : count_of c (ch ∷ []) ≡ 0 = count_one ch c ∙ ap (λ b. cond {A = ℕ} b 1 0) (ne_eqb ch c other) in
           rw (now, lost, got) refl
 
       at : (key ≡ c) ⊎ (key ≢ c) → kid (map (reparented key (Some p)) (dropped key xs)) q c + cond (p == q) (count_of c (key ∷ [])) 0 ≡ kid xs q c + cond (p == q) (count_of c (ch ∷ [])) 0
@@ -343,7 +342,7 @@ module _ (xs : List Entry) (key p ch : ℕ) (e f g : Entry) (hung : AreHung xs) 
           let now : kid (map (reparented key (Some p)) (dropped key xs)) q c ≡ 0 = ap (λ o. cond {A = ℕ} (is_child_of q (up o)) 1 0) (spliced_same c same) in
           let was : kid xs q c ≡ cond (p == q) 1 0 = ap (λ o. cond {A = ℕ} (is_child_of q (up o)) 1 0) (ap (entry_of xs) (sym same) ∙ is) ∙ ap (λ o. cond {A = ℕ} (is_child_of q o) 1 0) is_parent in
           let lost : count_of c (key ∷ []) ≡ 1 = count_one key c ∙ ap (λ b. cond {A = ℕ} b 1 0) (eq-eqb key c same) in
-          let got : count_of c (ch ∷ []) ≡ 0 = count_one ch c ∙ ap (λ b. cond {A = ℕ} b 1 0) (unlike ch c (λ equal. child_differs (equal ∙ sym same))) in
+          let got : count_of c (ch ∷ []) ≡ 0 = count_one ch c ∙ ap (λ b. cond {A = ℕ} b 1 0) (ne_eqb ch c (λ equal. child_differs (equal ∙ sym same))) in
           rw (now, was, lost, got) (ends (p == q))
       at (inr differs) = at_child differs (cases_eq ch c)
 

@@ -2,18 +2,15 @@
 use Rattle.std.proofs.Common.{◌≡◌, ◌≢◌, ◌⊎◌, ℕ, suc, zero, ◌<◌, ◌≤◌, Bool, true, false, cond, List, [], ◌∷◌, length, refl, ap, sym, subst, arith, Some, None, inl, inr, nat_lt, ◌==◌, slice_index_or}
 use Rattle.std.specs.List.{AllByRecursion, AllWithin}
 use Rattle.std.specs.List.Sorted.{IsPartitionedBy}
-use Rattle.std.proofs.lemmas.Bool.{eqb-true, eq-eqb, ltb-true, ltb-false, lt-ltb, cases_Bool, false_from_ne_true}
+use Rattle.std.proofs.lemmas.Bool.{eqb-true, eq-eqb, ltb-true, ltb-false, lt-ltb, cases_Bool, false_from_ne_true, ne_eqb}
 use Rattle.std.proofs.lemmas.List.Elements.{All-from_recursion}
 use Rattle.tb_shape.specs.declared.entries.Entry.{Entry}
 use Rattle.tb_shape.specs.Entries.{IsRising, place_of, entry_of}
 
-pub unlike : (a b : ℕ) → a ≢ b → (a == b) ≡ false
-unlike a b differs = false_from_ne_true _ (λ same. differs (eqb-true a b same))
-
 -- a key below all entries is not among them
 pub below_all : (key : ℕ) (xs : List Entry) → AllByRecursion (λ (later : Entry). key < later.key) xs → entry_of xs key ≡ None
 below_all key [] all = refl
-below_all key (x ∷ xs) all = rw (unlike x.key key (omega (arith, all.0))) (below_all key xs all.1)
+below_all key (x ∷ xs) all = rw (ne_eqb x.key key (omega (arith, all.0))) (below_all key xs all.1)
 
 weaker : (a b : ℕ) (xs : List Entry) → a ≤ b → AllByRecursion (λ (later : Entry). b < later.key) xs → AllByRecursion (λ (later : Entry). a < later.key) xs
 weaker a b [] less all = tt
@@ -56,7 +53,7 @@ found key (x ∷ xs) d within same = at (found key xs d) (nat_lt x.key key) refl
     at later true is within same = rw (differs) (later (omega arith) same)
       where
         differs : (x.key == key) ≡ false
-        differs = unlike x.key key (omega (arith, ltb-true x.key key is))
+        differs = ne_eqb x.key key (omega (arith, ltb-true x.key key is))
     at later false is within same = rw (eq-eqb x.key key same) refl
 
 pub missing_past : (key : ℕ) (xs : List Entry) → length xs ≤ place_of key xs → entry_of xs key ≡ None
@@ -64,7 +61,7 @@ missing_past key [] past = refl
 missing_past key (x ∷ xs) past = at (missing_past key xs) (nat_lt x.key key) refl past
   where
     at : (length xs ≤ place_of key xs → entry_of xs key ≡ None) → (b : Bool) → nat_lt x.key key ≡ b → suc (length xs) ≤ cond b (suc (place_of key xs)) 0 → cond (x.key == key) (Some x) (entry_of xs key) ≡ None
-    at later true is past = rw (unlike x.key key (omega (arith, ltb-true x.key key is))) (later (omega arith))
+    at later true is past = rw (ne_eqb x.key key (omega (arith, ltb-true x.key key is))) (later (omega arith))
     at later false is past = absurd (omega arith)
 
 pub missing_at : (key : ℕ) (xs : List Entry) (d : Entry) → IsRising xs → place_of key xs < length xs → (slice_index_or xs (place_of key xs) d).key ≢ key → entry_of xs key ≡ None
@@ -72,9 +69,9 @@ missing_at key [] d rising within differs = refl
 missing_at key (x ∷ xs) d rising within differs = at (missing_at key xs d rising.1) (nat_lt x.key key) refl within differs
   where
     at : (place_of key xs < length xs → (slice_index_or xs (place_of key xs) d).key ≢ key → entry_of xs key ≡ None) → (b : Bool) → nat_lt x.key key ≡ b → cond b (suc (place_of key xs)) 0 < suc (length xs) → (slice_index_or (x ∷ xs) (cond b (suc (place_of key xs)) 0) d).key ≢ key → cond (x.key == key) (Some x) (entry_of xs key) ≡ None
-    at later true is within differs = rw (unlike x.key key (omega (arith, ltb-true x.key key is))) (later (omega arith) differs)
+    at later true is within differs = rw (ne_eqb x.key key (omega (arith, ltb-true x.key key is))) (later (omega arith) differs)
     at later false is within differs =
-        rw (unlike x.key key differs) (below_all key xs (weaker key x.key xs (ltb-false x.key key is) rising.0))
+        rw (ne_eqb x.key key differs) (below_all key xs (weaker key x.key xs (ltb-false x.key key is) rising.0))
 
 -- the same at a place that was computed
 pub found_by : (key at : ℕ) (xs : List Entry) (d : Entry) → at ≡ place_of key xs → at < length xs → (slice_index_or xs at d).key ≡ key → entry_of xs key ≡ Some (slice_index_or xs at d)

@@ -1,17 +1,17 @@
 -- What the edits of a `Shape` need of it.
 use Rattle.std.proofs.Common.{◌≡◌, ◌∙◌, ◌≢◌, ◌⊎◌, ◌||◌, ℕ, suc, ◌+◌, ◌<◌, ◌≤◌, Bool, true, false, cond, List, [], ◌∷◌, length, map, refl, ap, sym, subst, arith, Option, Some, None, inl, inr, ◌==◌, nat_lt, slice_index, insert, remove}
 use Rattle.std.specs.Prelude.{IsSome, IfSome, is_some, MatchOption, ⊤}
-use Rattle.std.specs.List.{list_any}
+use Rattle.std.specs.List.{list_any, AllByRecursion}
 use Rattle.std.proofs.lemmas.Bool.{eq-eqb, cases_eq}
 use Rattle.std.proofs.lemmas.List.Sums.{sum_by-cons}
 use Rattle.slab.specs.Slab.{Slab, get, ContainsKey, Updates}
 use Rattle.tb_shape.specs.declared.entries.Entry.{Entry}
 use Rattle.tb_shape.specs.declared.nodes.Node.{Node}
 use Rattle.tb_shape.specs.Entries.{IsRising, AreHung, entry_of, place_of, tree_of, reparented}
-use Rattle.tb_shape.specs.Tree.{Keys, HasKey, is_key, parent_of, is_child_of, AreChildren, with_child, without, spliced, moved_up}
+use Rattle.tb_shape.specs.Tree.{Keys, IsKeys, AreRising, HasKey, is_key, parent_of, is_child_of, AreChildren, with_child, without, spliced, moved_up}
 use Rattle.tb_shape.specs.Nodes.{count_of, ChangesNode, HasChild}
 use Rattle.tb_shape.specs.Shape.{IsShape}
-use Rattle.tb_shape.proofs.Climb.{none_from, HasKey-entry, parent_of-entry, key-entry, hung_up}
+use Rattle.tb_shape.proofs.Climb.{none_from, has_path, HasKey-entry, parent_of-entry, key-entry, hung_up}
 use Rattle.tb_shape.proofs.Changes.{dropped, up, parent_of-up, insert-placed, tree_of-placed, tree_of-dropped, tree_of-reparented, remove-dropped, child_true}
 use Rattle.tb_shape.proofs.Keep.{IsShape-capacity, IsShape-placed, IsShape-spliced}
 
@@ -167,13 +167,25 @@ parent_there xs key e hung is = at e.parent refl
     at (Some p) up = let above = hung_up xs key p e hung is up in HasKey-entry xs p above.0 above.1
 
 -- the root of a `Shape`
-pub root_there : (xs : List Entry) (nodes : Slab Node) (root : ℕ) → IsShape xs nodes root → HasKey (tree_of xs) root
-root_there xs nodes root is = HasKey-entry xs root is.top.0 is.top.1
+keys_above : (key : ℕ) (xs : List Entry) → AllByRecursion (λ (later : Entry). key < later.key) xs → AllByRecursion (λ (later : ℕ × Option ℕ). key < later.0) (tree_of xs)
+keys_above key [] all = tt
+keys_above key (x ∷ xs) all = (all.0, keys_above key xs all.1)
 
-pub root_top : (xs : List Entry) (nodes : Slab Node) (root : ℕ) → IsShape xs nodes root → parent_of (tree_of xs) root ≡ None
-root_top xs nodes root is = parent_of-entry xs root is.top.0 is.top.1 ∙ is.top.2
+keys_rise : (xs : List Entry) → IsRising xs → AreRising (tree_of xs)
+keys_rise [] rising = tt
+keys_rise (x ∷ xs) rising = (keys_above x.key xs rising.0, keys_rise xs rising.1)
 
-pub root_only : (xs : List Entry) (nodes : Slab Node) (root : ℕ) → IsShape xs nodes root → (key : ℕ) → HasKey (tree_of xs) key → parent_of (tree_of xs) key ≡ None → key ≡ root
-root_only xs nodes root is key has top =
-    let e = some_from (entry_of xs key) (entry_there xs key has) in
-    is.only key e.0 e.1 (sym (parent_of-entry xs key e.0 e.1) ∙ top)
+-- what a `Shape` stands for is a tree
+pub IsKeys-shape : (xs : List Entry) (nodes : Slab Node) (root : ℕ) → IsShape xs nodes root → IsKeys (tree_of xs) root
+IsKeys-shape xs nodes root is =
+    record {
+      rising = keys_rise xs is.rising;
+      there = HasKey-entry xs root is.top.0 is.top.1;
+      top = parent_of-entry xs root is.top.0 is.top.1 ∙ is.top.2;
+      only = λ key has top. let e = some_from (entry_of xs key) (entry_there xs key has) in is.only key e.0 e.1 (sym (parent_of-entry xs key e.0 e.1) ∙ top);
+      up = λ key parent above.
+          let e = entry_below xs key (is_some_at (parent_of (tree_of xs) key) parent above) in
+          let higher = hung_up xs key parent e.0 is.hung e.1 (sym (parent_of-entry xs key e.0 e.1) ∙ above) in
+          HasKey-entry xs parent higher.0 higher.1;
+      paths = λ key has. let e = some_from (entry_of xs key) (entry_there xs key has) in has_path xs is.hung (suc e.0.depth) key e.0 e.1 (omega arith);
+    }

@@ -1,6 +1,6 @@
 -- A tree over keys as the list of its keys, in rising order, each with its parent. The root has none.
-use Rattle.std.specs.Prelude.{◌≡◌, ℕ, Bool, false, cond, not, List, [], ◌∷◌, map, filter, find, Option, Some, None, option_and_then, IsTrue, count_by, nat_lt, ◌==◌}
-use Rattle.std.specs.List.{list_any}
+use Rattle.std.specs.Prelude.{◌≡◌, ℕ, ◌<◌, ⊤, Bool, false, cond, not, List, [], ◌∷◌, map, filter, find, Option, Some, None, option_and_then, IsTrue, count_by, nat_lt, ◌==◌}
+use Rattle.std.specs.List.{list_any, AllByRecursion}
 
 abbrev pub Keys : Type 0
 Keys = List (ℕ × Option ℕ)
@@ -33,7 +33,22 @@ IsPath tree key [] = ⊥
 IsPath tree key (k ∷ []) = (k ≡ key) × HasKey tree key × (parent_of tree key ≡ None)
 IsPath tree key (k ∷ next ∷ path) = (k ≡ key) × (parent_of tree key ≡ Some next) × IsPath tree next (next ∷ path)
 
--- the first key is on the way from the second to the root, so every key of the tree is its own ancestor
+-- each key is below those after it
+abbrev pub AreRising : Keys → Type 0
+AreRising [] = ⊤
+AreRising (entry ∷ tree) = AllByRecursion (λ (later : ℕ × Option ℕ). entry.0 < later.0) tree × AreRising tree
+
+-- a tree with this root: the keys rise, a parent is a key, each key has a path to the root, and the root
+-- alone has no parent
+pub record IsKeys (tree : Keys) (root : ℕ) : Type 0 where
+  pub rising : AreRising tree
+  pub there : HasKey tree root
+  pub top : parent_of tree root ≡ None
+  pub only : (key : ℕ) → HasKey tree key → parent_of tree key ≡ None → key ≡ root
+  pub up : (key parent : ℕ) → parent_of tree key ≡ Some parent → HasKey tree parent
+  pub paths : (key : ℕ) → HasKey tree key → (path : List ℕ) × IsPath tree key path
+
+-- the first key is on the path from the second to the root, so every key of the tree is its own ancestor
 abbrev pub IsAncestor : Keys → ℕ → ℕ → Type 0
 IsAncestor tree a b = (path : List ℕ) × IsPath tree b path × IsTrue (list_any (λ k. k == a) path)
 

@@ -10,12 +10,12 @@ use crate::entries::{Entry, above, insert_entry, look_up, present, remove_entry,
 use crate::nodes::{
     Node, children_at, insert_node, push_child, remove_child, remove_node, swap_child,
 };
-use crate::shape::Memory;
 use slab::Slab;
 use smallvec::SmallVec;
+use std::alloc::AllocError;
 
 /// Puts the root into an empty tree.
-pub fn plant(entries: &mut Vec<Entry>, nodes: &mut Slab<Node>, root: u64) -> Result<(), Memory>
+pub fn plant(entries: &mut Vec<Entry>, nodes: &mut Slab<Node>, root: u64) -> Result<(), AllocError>
     requires { entries.old.items ≡ [] }
     ensures tree { OnOk result (tree_of entries.new.items ≡ (root, None) ∷ []) }
     ensures shape { OnOk result (IsShape entries.new.items nodes.new root) }
@@ -25,7 +25,7 @@ pub fn plant(entries: &mut Vec<Entry>, nodes: &mut Slab<Node>, root: u64) -> Res
         children: SmallVec::new(*entries.allocator()),
     };
     let Ok(slot) = nodes.insert(node) else {
-        return Err(Memory);
+        return Err(AllocError);
     };
     let top = Entry {
         key: root,
@@ -35,14 +35,15 @@ pub fn plant(entries: &mut Vec<Entry>, nodes: &mut Slab<Node>, root: u64) -> Res
     };
     match entries.push(top) {
         Ok(()) => Ok(()),
-        Err(_) => Err(Memory),
+        Err(_) => Err(AllocError),
     }
 }
 
 /// The children of a key.
 pub fn children_in<'a>(entries: &[Entry], nodes: &'a Slab<Node>, key: u64) -> &'a [u64]
     requires { (root : ℕ) × IsShape entries.now nodes.now root }
-    ensures { AreChildren (tree_of entries.now) key result.now }
+    ensures children { AreChildren (tree_of entries.now) key result.now }
+    ensures missing { ¬ HasKey (tree_of entries.now) key → result.now ≡ [] }
 {
     match look_up(entries, key) {
         Some(entry) => children_at(nodes, entry.slot),
@@ -56,7 +57,7 @@ pub fn hang(
     nodes: &mut Slab<Node>,
     parent: u64,
     key: u64,
-) -> Result<(), Memory>
+) -> Result<(), AllocError>
     requires shape { (root : ℕ) × IsShape entries.old.items nodes.old root }
     requires parent { HasKey (tree_of entries.old.items) parent }
     requires fresh { ¬ HasKey (tree_of entries.old.items) key }
@@ -66,7 +67,7 @@ pub fn hang(
 {
     let over = present(entries, parent);
     let Some(depth) = over.depth.checked_add(1) else {
-        return Err(Memory);
+        return Err(AllocError);
     };
     make_room(entries, nodes)?;
     push_child(nodes, over.slot, key)?;
@@ -121,7 +122,7 @@ fn first(keys: &[u64]) -> u64
 }
 
 /// Makes room for one more key and its node.
-fn make_room(entries: &mut Vec<Entry>, nodes: &mut Slab<Node>) -> Result<(), Memory>
+fn make_room(entries: &mut Vec<Entry>, nodes: &mut Slab<Node>) -> Result<(), AllocError>
     ensures entries { entries.new.items ≡ entries.old.items }
     ensures nodes { nodes.new ≡ record nodes.old { capacity = nodes.new.capacity } }
     ensures entry { OnOk result (vec_len entries.new < vec_capacity entries.new) }
@@ -129,10 +130,10 @@ fn make_room(entries: &mut Vec<Entry>, nodes: &mut Slab<Node>) -> Result<(), Mem
 {
     match entries.reserve(1) {
         Ok(()) => {}
-        Err(_) => return Err(Memory),
+        Err(_) => return Err(AllocError),
     }
     match nodes.reserve(1) {
         Ok(()) => Ok(()),
-        Err(_) => Err(Memory),
+        Err(_) => Err(AllocError),
     }
 }

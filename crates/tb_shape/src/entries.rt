@@ -4,8 +4,7 @@ ghost use Rattle.std.specs.Prelude.{◌≡◌, ◌≤◌, ◌↔◌, ◌∷◌, 
 ghost use Rattle.tb_shape.specs.Entries.{IsRising, IsHung, AreHung, place_of, entry_of, tree_of, reparented};
 ghost use Rattle.tb_shape.specs.Tree.{HasKey, parent_of, IsAncestor, IsPath};
 
-use crate::shape::Memory;
-use std::alloc::Global;
+use std::alloc::{AllocError, Global};
 
 /// A key, its parent, and the slot of its node. `depth` was one more than the parent's when the key
 /// was added, so that a parent's is always the lesser.
@@ -79,7 +78,7 @@ pub fn parent_in(entries: &[Entry], key: u64) -> Option<u64>
     }
 }
 
-/// Whether the first key is on the way from the second to the root.
+/// Whether the first key is on the path from the second to the root.
 pub fn is_above(entries: &[Entry], a: u64, b: u64) -> bool
     requires rising { IsRising entries.now }
     requires hung { AreHung entries.now }
@@ -91,7 +90,7 @@ pub fn is_above(entries: &[Entry], a: u64, b: u64) -> bool
     }
 }
 
-/// Whether the way from an entry to the root passes a key.
+/// Whether the path from an entry to the root passes a key.
 fn reaches(entries: &[Entry], start: u64, from: Entry, key: u64) -> bool
     requires rising { IsRising entries.now }
     requires hung { AreHung entries.now }
@@ -111,8 +110,8 @@ fn reaches(entries: &[Entry], start: u64, from: Entry, key: u64) -> bool
     true
 }
 
-/// The keys on the way from one that is there to the root.
-pub fn climb(alloc: Global, entries: &[Entry], start: u64) -> Result<Vec<u64>, Memory>
+/// The keys on the path from one that is there to the root.
+pub fn climb(alloc: Global, entries: &[Entry], start: u64) -> Result<Vec<u64>, AllocError>
     requires rising { IsRising entries.now }
     requires hung { AreHung entries.now }
     requires there { HasKey (tree_of entries.now) start }
@@ -131,12 +130,12 @@ pub fn climb(alloc: Global, entries: &[Entry], start: u64) -> Result<Vec<u64>, M
     Ok(path)
 }
 
-fn put(path: &mut Vec<u64>, key: u64) -> Result<(), Memory>
+fn put(path: &mut Vec<u64>, key: u64) -> Result<(), AllocError>
     ensures { OnOk result (path.new.items ≡ path.old.items ++ key ∷ []) }
 {
     match path.push(key) {
         Ok(()) => Ok(()),
-        Err(_) => Err(Memory),
+        Err(_) => Err(AllocError),
     }
 }
 

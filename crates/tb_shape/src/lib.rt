@@ -6,4 +6,4 @@ mod entries;
 mod nodes;
 mod shape;
 
-pub use shape::{Memory, Shape};
+pub use shape::Shape;

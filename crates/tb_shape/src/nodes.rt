@@ -5,10 +5,9 @@ ghost use Rattle.slab.specs.Slab.{Slab, ContainsKey, HasRoomFor, Updates, get};
 ghost use Rattle.tb_shape.specs.Nodes.{count_of, Recounts, ChangesNode, HasChild};
 ghost use Rattle.tb_shape.specs.declared.nodes.Node.{Node};
 
-use crate::shape::Memory;
 use slab::Slab;
 use smallvec::SmallVec;
-use std::alloc::Global;
+use std::alloc::{AllocError, Global};
 
 /// A key and its children.
 #[derive(Drop)]
@@ -28,7 +27,7 @@ pub fn children_at(nodes: &Slab<Node>, slot: usize) -> &[u64]
 }
 
 /// Adds a child to the node at a slot.
-pub fn push_child(nodes: &mut Slab<Node>, slot: usize, child: u64) -> Result<(), Memory>
+pub fn push_child(nodes: &mut Slab<Node>, slot: usize, child: u64) -> Result<(), AllocError>
     requires { ContainsKey nodes.old slot }
     ensures ok { OnOk result (ChangesNode nodes.old nodes.new slot (child ∷ []) []) }
     ensures err { OnErr result (ChangesNode nodes.old nodes.new slot [] []) }
@@ -36,9 +35,9 @@ pub fn push_child(nodes: &mut Slab<Node>, slot: usize, child: u64) -> Result<(),
     match nodes.get_mut(slot) {
         Some(node) => match node.children.push(child) {
             Ok(()) => Ok(()),
-            Err(_) => Err(Memory),
+            Err(_) => Err(AllocError),
         },
-        None => Err(Memory),
+        None => Err(AllocError),
     }
 }
 

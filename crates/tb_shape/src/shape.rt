@@ -1,16 +1,12 @@
 ghost use Rattle.std.specs.Prelude.{◌≡◌, ◌≢◌, ◌↔◌, ◌⊎◌, ℕ, List, [], ◌∷◌, Some, None, IsTrue, IsSome, IfOk, IfSome, OnOk, OnErr, false};
-ghost use Rattle.tb_shape.specs.Tree.{HasKey, parent_of, AreChildren, IsPath, IsAncestor, with_child, without, spliced};
+ghost use Rattle.tb_shape.specs.Tree.{HasKey, parent_of, AreChildren, IsKeys, IsPath, IsAncestor, with_child, without, spliced};
 
 use crate::edits::{children_in, cut, hang, plant, splice_out};
 use crate::entries::{Entry, climb, is_above, parent_in};
 use crate::nodes::Node;
 use slab::Slab;
-use std::alloc::Global;
+use std::alloc::{AllocError, Global};
 use std::marker::Model;
-
-/// There was no memory.
-#[derive(Clone, Copy, Debug, PartialEq, Eq)]
-pub struct Memory;
 
 /// A tree over keys. Contracts see it as the list of its keys, in rising order, each with its
 /// parent; the root has none.
@@ -35,7 +31,7 @@ impl Model for Shape {
 
 impl Shape {
     /// The tree of a root alone.
-    pub fn new(alloc: Global, root: u64) -> Result<Shape, Memory>
+    pub fn new(alloc: Global, root: u64) -> Result<Shape, AllocError>
         ensures { IfOk result (λ shape. shape ≡ (root, None) ∷ []) }
     {
         let mut nodes = Slab::new(alloc);
@@ -50,7 +46,7 @@ impl Shape {
 
     /// Adds a key, which is not there yet, below a parent, which is. After want of memory the tree is
     /// unchanged.
-    pub fn add_child(&mut self, parent: u64, key: u64) -> Result<(), Memory>
+    pub fn add_child(&mut self, parent: u64, key: u64) -> Result<(), AllocError>
         requires parent { HasKey self.old parent }
         requires fresh { ¬ HasKey self.old key }
         ensures ok { OnOk result (self.new ≡ with_child parent key self.old) }
@@ -59,11 +55,9 @@ impl Shape {
         hang(&mut self.entries, &mut self.nodes, parent, key)
     }
 
-    /// The key that has no parent.
+    /// The root: the key that has no parent.
     pub fn root(&self) -> u64
-        ensures there { HasKey self.now result }
-        ensures top { parent_of self.now result ≡ None }
-        ensures only { (key : ℕ) → HasKey self.now key → parent_of self.now key ≡ None → key ≡ result }
+        ensures { IsKeys self.now result }
     {
         self.root
     }
@@ -79,12 +73,13 @@ impl Shape {
     /// The keys whose parent is this one, each once, in no special order; none for a key that is not
     /// there.
     pub fn children(&self, key: u64) -> &[u64]
-        ensures { AreChildren self.now key result.now }
+        ensures children { AreChildren self.now key result.now }
+        ensures missing { ¬ HasKey self.now key → result.now ≡ [] }
     {
         children_in(&self.entries, &self.nodes, key)
     }
 
-    /// Whether the first key is on the way from the second to the root. A key of the tree is its own
+    /// Whether the first key is on the path from the second to the root. A key of the tree is its own
     /// ancestor; a key that is not there has none.
     pub fn is_ancestor(&self, a: u64, b: u64) -> bool
         ensures { IsTrue result ↔ IsAncestor self.now a b }
@@ -92,8 +87,8 @@ impl Shape {
         is_above(&self.entries, a, b)
     }
 
-    /// The keys on the way from a key to the root, both included.
-    pub fn path(&self, key: u64) -> Result<Vec<u64>, Memory>
+    /// The keys on the path from a key to the root, both included.
+    pub fn path(&self, key: u64) -> Result<Vec<u64>, AllocError>
         requires { HasKey self.now key }
         ensures { IfOk result (λ path. IsPath self.now key path.items) }
     {

@@ -111,7 +111,7 @@ reads-shrinks size (token ∷ tokens) text rest h =
     let others = reads-shrinks size tokens h.0 rest h.2 in
     omega arith
 
--- what `strip_prefix` answers
+-- what `strip_prefix` returns
 pub strip-is : (word text : List ℕ) (r : Option (Bor (List ℕ))) → MatchOption r ((rest : List ℕ) → text ≢ word ++ rest) (λ x. text ≡ word ++ x.now) → strip word text ≡ option_copied r
 strip-is word text None h = strip-none word text h
 strip-is word text (Some x) h = ap (strip word) h ∙ strip-again word x.now

@@ -1,4 +1,4 @@
--- Reading from left to right: what the private functions answer, apart from want of memory.
+-- Reading from left to right: what the private functions answer, apart from out of memory.
 use Rattle.std.specs.Prelude.{◌≡◌, ℕ, zero, suc, ◌+◌, ◌-◌, Bool, true, false, ◌&&◌, ◌||◌, not, ◌==◌, nat_le, if◌then◌else◌, List, [], ◌∷◌, ◌++◌, length, take, Option, None, Some, Result, Ok, Err, codes}
 use Rattle.std.specs.List.{flat_map}
 use Rattle.std.specs.Str.{bytes_eq}
@@ -42,12 +42,12 @@ abbrev pub ◌>>=◌ : {A B : Type 0} → Option A → (A → Option B) → Opti
 None >>= next = None
 (Some value) >>= next = next value
 
--- what a function answers with this error
+-- what a function returns with this error
 abbrev pub Fails : {Y : Type 0} → SmallError → Option Y → Type 0
 Fails errors.NotBuilt read = read ≡ None
 Fails errors.Memory read = Unit {0}
 
--- what a function answers, seen by `view`, is what reading gives, unless memory ran out
+-- what a function returns, seen by `view`, is what reading gives, unless memory ran out
 abbrev pub Gives : {X Y : Type 0} → (X → Y) → Result X SmallError → Option Y → Type 0
 Gives view (Ok value) read = read ≡ Some (view value)
 Gives view (Err error) read = Fails error read

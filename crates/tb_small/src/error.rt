@@ -6,7 +6,7 @@ pub enum SmallError {
     /// The text is none of the sources that are read so far.
     #[error("not built yet")]
     NotBuilt,
-    /// The allocator had no room.
+    /// Out of memory.
     #[error("out of memory")]
     Memory,
 }

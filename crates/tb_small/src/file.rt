@@ -56,7 +56,7 @@ fn file_at(alloc: Global, text: &[u8]) -> Result<SmallTree, SmallError>
 ///
 /// # Errors
 ///
-/// `NotBuilt` where no tree has this text, and `Memory` where the allocator has no room.
+/// `NotBuilt` where no tree has this text, and `Memory` where memory runs out.
 pub fn small(alloc: Global, text: &[u8]) -> Result<SmallTree, SmallError>
     requires { length text.now ≤ 1048576 }
     ensures tree { IfOk result (λ tree. IsSmall text.now tree) }

@@ -33,7 +33,8 @@ use Rattle.tb_syntax.specs.Leaves.{keyword_at, has_keyword, name_at, lifetime_at
 use Rattle.tb_syntax.specs.Lists.{IsListed, listed_at}
 use Rattle.tb_syntax.specs.Paths.{from_to, goes_on, names_at, path_at, IsPath}
 use Rattle.tb_syntax.specs.Repeats.{repeated_at}
-use Rattle.tb_syntax.specs.Types.{type_span, type_at}
+use Rattle.tb_ast.specs.Spans.{type_span}
+use Rattle.tb_syntax.specs.Types.{type_at}
 use Rattle.tb_syntax.specs.Written.{IsType, type_ends, ends_path}
 use Rattle.tb_syntax.specs.Notes.{result_at, optional_result_at, IsResult, ResultEnds}
 use Rattle.tb_syntax.specs.Items.{group_at, use_span, use_at, lifetimes_at, field_at, struct_at, bounds_at, generic_at, generics_at, parameter_at, head_at, foreign_at, extern_at, IsGroup, IsUse, AreLifetimes, IsField, IsStruct, AreBounds, IsGeneric, AreGenerics, IsParameter, head_row, IsHead, IsForeign, IsExtern}

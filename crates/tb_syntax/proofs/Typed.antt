@@ -34,7 +34,8 @@ use Rattle.tb_syntax.specs.Marks.{mark_at, punct_at, has_mark}
 use Rattle.tb_syntax.specs.Leaves.{lifetime_at, number_at, has_lifetime}
 use Rattle.tb_syntax.specs.Lists.{Listed, IsListed, listed_at}
 use Rattle.tb_syntax.specs.Paths.{from_to, goes_on, IsPath}
-use Rattle.tb_syntax.specs.Types.{type_span, type_front_at, tuple_of, tuple_at, length_of, length_at, array_at, argument_at, arguments_at, path_type_at, type_behind, type_at}
+use Rattle.tb_ast.specs.Spans.{type_span}
+use Rattle.tb_syntax.specs.Types.{type_front_at, tuple_of, tuple_at, length_of, length_at, array_at, argument_at, arguments_at, path_type_at, type_behind, type_at}
 use Rattle.tb_syntax.specs.Written.{IsTypeRow, IsArgumentRow, IsArgument, AreArguments, IsType, ends_path, Ends, ends_step, ends_anywhere, type_ends, IsTypeAt}
 use Rattle.tb_syntax.proofs.Options.{bind_some, kept, chosen, some_is}
 use Rattle.tb_syntax.proofs.Chains.{stands-then, stands-split, stands-one, one-stands}

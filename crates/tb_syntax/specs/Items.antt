@@ -28,7 +28,8 @@ use Rattle.tb_syntax.specs.Leaves.{keyword_at, has_keyword, name_at, lifetime_at
 use Rattle.tb_syntax.specs.Lists.{IsListed, listed_at}
 use Rattle.tb_syntax.specs.Paths.{from_to, names_at, path_at, IsPath, AreNamed}
 use Rattle.tb_syntax.specs.Repeats.{repeated_at}
-use Rattle.tb_syntax.specs.Types.{type_span, type_at}
+use Rattle.tb_ast.specs.Spans.{type_span}
+use Rattle.tb_syntax.specs.Types.{type_at}
 use Rattle.tb_syntax.specs.Written.{IsType}
 use Rattle.tb_syntax.specs.Notes.{result_at, optional_result_at, IsResult}
 

@@ -16,6 +16,7 @@ use Rattle.tb_ast.specs.declared.written.TypeArgument.{TypeArgument, roll-TypeAr
 use Rattle.tb_ast.specs.declared.written.TypeArguments.{TypeArguments, roll-TypeArguments, out-TypeArguments}
 use Rattle.tb_ast.specs.declared.written.TypeArgument.TheOpen.{TypeExpr-F, TypeArgument-F, TypeArguments-F}
 use Rattle.tb_ast.specs.declared.written.TypeArgument.TheOpen.TypeExpr-F.{Unit, Tuple, Slice, Array, Reference, Pointer, Path as PathType}
+use Rattle.tb_ast.specs.Spans.{type_span}
 use Rattle.tb_syntax.specs.declared.types.TypeFront.{TypeFront}
 use Rattle.tb_syntax.specs.declared.types.TypeFront.TheVariants as front
 use Rattle.tb_syntax.specs.Reading.{◌>>=◌}
@@ -24,19 +25,6 @@ use Rattle.tb_syntax.specs.Marks.{mark_at, punct_at, has_mark}
 use Rattle.tb_syntax.specs.Leaves.{keyword_at, has_keyword, lifetime_at, has_lifetime, number_at, optional_keyword_at, optional_lifetime_at}
 use Rattle.tb_syntax.specs.Lists.{Listed, listed_at}
 use Rattle.tb_syntax.specs.Paths.{from_to, path_at}
-
--- the place of a type
-abbrev pub place_in : {A C : Type 0} → TypeExpr-F A TypeExpr C → Span
-place_in (Unit span opening closing) = span
-place_in (Tuple span opening parts commas closing) = span
-place_in (Slice span opening element closing) = span
-place_in (Array span opening element semicolon length closing) = span
-place_in (Reference span and name mutable target) = span
-place_in (Pointer span star kind target) = span
-place_in (PathType span path arguments) = span
-
-abbrev pub type_span : TypeExpr → Span
-type_span ty = place_in (out-TypeExpr ty)
 
 -- what stands before the first type in a type
 

@@ -13,7 +13,7 @@ use Rattle.tb_syntax.specs.State.{State, Stands}
 use Rattle.tb_syntax.specs.Marks.{has_mark}
 use Rattle.tb_syntax.specs.Lists.{IsListed}
 use Rattle.tb_syntax.specs.Paths.{from_to, goes_on, IsPath}
-use Rattle.tb_syntax.specs.Types.{type_span}
+use Rattle.tb_ast.specs.Spans.{type_span}
 
 -- the types in a type are as `Part` says
 module _ (Part : TypeExpr → Type 0) where

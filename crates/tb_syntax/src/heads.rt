@@ -9,7 +9,7 @@ ghost use Rattle.tb_syntax.specs.Items.{bounds_at, generic_at, generics_at, para
 use crate::cursor::Cursor;
 use crate::elements::{Element, Repeated, list, many};
 use crate::error::ReadError;
-use crate::types::{from_to, type_span};
+use crate::types::from_to;
 use sqlite_items::Items;
 use std::alloc::Global;
 use tb_ast::{
@@ -94,7 +94,7 @@ impl<'a> Cursor<'a> {
         let (name, rest) = rest.name(alloc)?;
         let (colon, rest) = rest.punct(Punctuation::Colon)?;
         let (ty, rest) = rest.ty(alloc, depth)?;
-        let span = from_to(name.span, type_span(&ty));
+        let span = from_to(name.span, ty.span());
         let parameter = Parameter {
             span,
             mut_keyword,

@@ -8,7 +8,7 @@ ghost use Rattle.tb_lex.specs.declared.punctuation.Punctuation.TheVariants.{Gt};
 ghost use Rattle.tb_syntax.specs.Reading.{Gives};
 ghost use Rattle.tb_syntax.specs.Lists.{listed_at};
 ghost use Rattle.tb_syntax.specs.Paths.{from_to};
-ghost use Rattle.tb_syntax.specs.Types.{type_span, reference_front_at, pointer_kind_at, pointer_front_at, type_front_at, tuple_at, length_at, array_at, reference_to, pointer_to, argument_at, path_type_at, type_behind, type_at};
+ghost use Rattle.tb_syntax.specs.Types.{reference_front_at, pointer_kind_at, pointer_front_at, type_front_at, tuple_at, length_at, array_at, reference_to, pointer_to, argument_at, path_type_at, type_behind, type_at};
 
 use crate::cursor::Cursor;
 use crate::error::ReadError;
@@ -56,21 +56,6 @@ pub fn from_to(first: Span, last: Span) -> Span
     }
 }
 
-/// The place of a type.
-pub fn type_span(ty: &TypeExpr) -> Span
-    ensures { result ≡ type_span ty.now }
-{
-    match ty {
-        TypeExpr::Unit { span, .. }
-        | TypeExpr::Tuple { span, .. }
-        | TypeExpr::Slice { span, .. }
-        | TypeExpr::Array { span, .. }
-        | TypeExpr::Reference { span, .. }
-        | TypeExpr::Pointer { span, .. }
-        | TypeExpr::Path { span, .. } => *span,
-    }
-}
-
 /// A reference to a type.
 fn reference_to(
     alloc: Global,
@@ -81,7 +66,7 @@ fn reference_to(
 ) -> Result<TypeExpr, ReadError>
     ensures { Gives (λ ty. ty) result (Some (reference_to and lifetime mut_keyword target)) }
 {
-    let span = from_to(and.span, type_span(&target));
+    let span = from_to(and.span, target.span());
     let target = Boxed::new(alloc, target)?;
     Ok(TypeExpr::Reference {
         span,
@@ -101,7 +86,7 @@ fn pointer_to(
 ) -> Result<TypeExpr, ReadError>
     ensures { Gives (λ ty. ty) result (Some (pointer_to star kind target)) }
 {
-    let span = from_to(star, type_span(&target));
+    let span = from_to(star, target.span());
     let target = Boxed::new(alloc, target)?;
     Ok(TypeExpr::Pointer {
         span,

@@ -13,7 +13,7 @@ pub line_front : (why : Halt) (old new : Option (List ℕ)) (before now status :
 line_front why old new before now status (inl whole) = GrewByPrefix-whole old new (line_of why) whole.line
 line_front why old new before now status (inr cut) = cut.front
 
--- the status of want of memory is no other's
+-- the status of out of memory is no other's
 memory_of : (why : Halt) → status_of why ≡ 8 → why ≡ halt.Memory
 memory_of halt.TooLong e = absurd (omega arith)
 memory_of halt.NotBuilt e = absurd (omega arith)

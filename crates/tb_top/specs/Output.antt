@@ -1,4 +1,4 @@
--- What a call puts out and answers where nothing fails.
+-- What a call puts out and returns where nothing fails.
 use Rattle.std.specs.Prelude.{◌≡◌, ◌<◌, ◌≤◌, ◌⊎◌, ℕ, List, [], length, Option, Some, None, IsSome}
 use Rattle.tb_base.specs.Growth.{GrewByPrefix}
 use Rattle.tb_base.specs.Outside.{FilesTold, bytes_under}

@@ -7,7 +7,7 @@ use Rattle.tb_top.specs.declared.read.ReadError.TheVariants.{TooLong, Fault, Mem
 use Rattle.tb_top.specs.Output.{longest}
 use Rattle.tb_top.specs.Told.{AskedNothing, AskedOnce, Finds}
 
--- a reading counts a fault where it answers one, and nowhere else
+-- a reading counts a fault where it returns one, and nowhere else
 abbrev pub CountsReading : {A : Type 0} → ℕ → ℕ → Result A ReadError → Type 0
 CountsReading before now (Ok source) = now ≡ before
 CountsReading before now (Err TooLong) = now ≡ before

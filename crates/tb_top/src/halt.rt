@@ -2,6 +2,7 @@ ghost use Rattle.std.specs.Prelude.{◌≡◌};
 
 use crate::read::ReadError;
 use sqlite_items::Items;
+use std::alloc::AllocError;
 use tb_small::SmallError;
 
 /// Why a call ends without finishing.
@@ -21,7 +22,7 @@ pub enum Halt {
     ReadFault,
     /// A write to the output failed.
     WriteFault,
-    /// Memory ran out.
+    /// Out of memory.
     Memory,
 }
 
@@ -59,7 +60,7 @@ impl Halt {
     }
 
     /// The status of the program where this report could not be put: that of a failed write, except
-    /// that want of memory keeps its own.
+    /// that out of memory keeps its own.
     pub fn cut_status(&self) -> u8
         ensures { result ≡ cut_status_of self.now }
     {
@@ -99,35 +100,13 @@ impl From<SmallError> for Halt {
     }
 }
 
-impl From<tb_lower::Memory> for Halt {
+impl From<AllocError> for Halt {
     ghost use Rattle.std.specs.Prelude.{◌≡◌};
     ghost use Rattle.tb_top.specs.declared.halt.Halt.TheVariants.{Memory};
 
     ghost from_gives = { λ _ why. why ≡ Memory };
 
-    fn from(_: tb_lower::Memory) -> Halt {
-        Halt::Memory
-    }
-}
-
-impl From<tb_retag::Memory> for Halt {
-    ghost use Rattle.std.specs.Prelude.{◌≡◌};
-    ghost use Rattle.tb_top.specs.declared.halt.Halt.TheVariants.{Memory};
-
-    ghost from_gives = { λ _ why. why ≡ Memory };
-
-    fn from(_: tb_retag::Memory) -> Halt {
-        Halt::Memory
-    }
-}
-
-impl From<tb_run::Memory> for Halt {
-    ghost use Rattle.std.specs.Prelude.{◌≡◌};
-    ghost use Rattle.tb_top.specs.declared.halt.Halt.TheVariants.{Memory};
-
-    ghost from_gives = { λ _ why. why ≡ Memory };
-
-    fn from(_: tb_run::Memory) -> Halt {
+    fn from(_: AllocError) -> Halt {
         Halt::Memory
     }
 }

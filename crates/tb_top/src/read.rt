@@ -41,7 +41,7 @@ impl From<AllocError> for ReadError {
     }
 }
 
-/// Reads one piece of the open file onto the end of the source, and answers whether it was the end.
+/// Reads one piece of the open file onto the end of the source, and returns whether it was the end.
 /// Not more than one byte beyond the longest source is asked for.
 #[tactic(auto, using(crate::proofs::TellingLaws::telling_laws))]
 fn take_piece<F: Files>(files: &mut F, source: &mut Vec<u8>) -> Result<bool, ReadError>

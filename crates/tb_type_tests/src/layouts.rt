@@ -1,9 +1,9 @@
 ghost use Rattle.std.specs.Prelude.{◌≡◌, ◌<◌, ◌≤◌, ◌+◌, length};
-ghost use Rattle.tb_types.specs.Table.{IsDeclared};
+ghost use Rattle.tb_types.specs.Table.{IsDeclared, IsType};
 
 use crate::types::{add, field};
 use std::alloc::Global;
-use tb_layout::{cells, layout};
+use tb_layout::{Leaf, LeafShape, cells, layout, leaves, retag_leaves};
 use tb_perm::CellRange;
 use tb_types::{IntKind, Parts, Ty, TyShape, Types};
 
@@ -15,14 +15,30 @@ fn add_tuple(alloc: Global, types: &mut Types, parts: &[Ty]) -> Option<Ty> {
     }
 }
 
-/// The size and alignment of a type that is there and is not too large.
+/// The size and alignment of a type that is there and is not too large, by its layout and by look-up.
 fn measured(alloc: Global, types: &Types, ty: Ty) -> Option<(u32, u32)> {
     if ty.0 >= types.count() {
         return None;
     }
-    match layout(alloc, types, ty) {
-        Ok(layout) => Some((layout.size, layout.align)),
-        Err(_) => None,
+    let Ok(layout) = layout(alloc, types, ty) else {
+        return None;
+    };
+    let found = looked_up(types, ty);
+    if found == Some((layout.size, layout.align)) {
+        found
+    } else {
+        None
+    }
+}
+
+/// The size and alignment of a type that is not too large, by look-up.
+fn looked_up(types: &Types, ty: Ty) -> Option<(u32, u32)>
+    requires { IsType types.now ty }
+{
+    if types.fits(ty) {
+        Some(types.size_align(ty))
+    } else {
+        None
     }
 }
 
@@ -132,7 +148,7 @@ fn deep_types_end(rt: HostRuntime) {
 
 /// Whether the cell bytes of a type are these, from one byte up to before another.
 fn has_cells(alloc: Global, types: &Types, ty: Ty, wanted: &[CellRange]) -> bool {
-    if ty.0 >= types.count() || layout(alloc, types, ty).is_err() {
+    if ty.0 >= types.count() || !types.fits(ty) {
         return false;
     }
     match cells(alloc, types, ty) {
@@ -166,7 +182,13 @@ fn cells_have_bytes(rt: HostRuntime) {
     let _ = add(&mut types, TyShape::UnsafeCell(Ty(6)));
     let _ = add(&mut types, TyShape::Array(Ty(7), 2));
     let _ = add_tuple(rt.alloc(), &mut types, &[Ty(0), Ty(9), Ty(2)]);
-    let rows: [(u32, &[CellRange]); 10] = [
+    // Long arrays: of cells, of cells of no bytes, and of pairs without cells.
+    let _ = add(&mut types, TyShape::Array(Ty(2), 65_536));
+    let _ = add(&mut types, TyShape::Unit);
+    let _ = add(&mut types, TyShape::Cell(Ty(13)));
+    let _ = add(&mut types, TyShape::Array(Ty(14), 2_000_000));
+    let _ = add(&mut types, TyShape::Array(Ty(6), 100_000));
+    let rows: [(u32, &[CellRange]); 13] = [
         (1, &[]),
         (2, &[range(0, 1)]),
         (3, &[]),
@@ -177,9 +199,147 @@ fn cells_have_bytes(rt: HostRuntime) {
         (9, &[range(0, 8)]),
         (10, &[range(0, 1), range(2, 3)]),
         (11, &[range(4, 13)]),
+        (12, &[range(0, 65_536)]),
+        (15, &[]),
+        (16, &[]),
     ];
     for (ty, wanted) in rows {
         assert!(rt; has_cells(rt.alloc(), &types, Ty(ty), wanted), "{ty}");
+    }
+}
+
+/// Whether the leaves of a type are these, and those at which a retag stands these others.
+fn has_leaves(alloc: Global, types: &Types, ty: Ty, wanted: &[Leaf], retagged: &[Leaf]) -> bool {
+    if ty.0 >= types.count() || !types.fits(ty) {
+        return false;
+    }
+    match (leaves(alloc, types, ty), retag_leaves(alloc, types, ty)) {
+        (Ok(leaves), Ok(retags)) => leaves.as_slice() == wanted && retags.as_slice() == retagged,
+        _ => false,
+    }
+}
+
+const BYTE: LeafShape = LeafShape::Int(IntKind::U8);
+
+const SHARED: LeafShape = LeafShape::Ref(false, Ty(0));
+
+const BOXED: LeafShape = LeafShape::Boxed(Ty(1));
+
+/// Types, their leaves, and those of them at which a retag stands.
+const LEAVES: [(u32, &[Leaf], &[Leaf]); 5] = [
+    (
+        2,
+        &[Leaf {
+            at: 0,
+            shape: SHARED,
+        }],
+        &[Leaf {
+            at: 0,
+            shape: SHARED,
+        }],
+    ),
+    (
+        5,
+        &[
+            Leaf {
+                at: 0,
+                shape: SHARED,
+            },
+            Leaf {
+                at: 8,
+                shape: SHARED,
+            },
+        ],
+        &[],
+    ),
+    (6, &[], &[]),
+    (
+        7,
+        &[
+            Leaf { at: 0, shape: BYTE },
+            Leaf {
+                at: 8,
+                shape: SHARED,
+            },
+            Leaf {
+                at: 16,
+                shape: BOXED,
+            },
+        ],
+        &[
+            Leaf {
+                at: 8,
+                shape: SHARED,
+            },
+            Leaf {
+                at: 16,
+                shape: BOXED,
+            },
+        ],
+    ),
+    (
+        8,
+        &[
+            Leaf {
+                at: 0,
+                shape: SHARED,
+            },
+            Leaf {
+                at: 8,
+                shape: SHARED,
+            },
+            Leaf {
+                at: 16,
+                shape: SHARED,
+            },
+            Leaf {
+                at: 24,
+                shape: BYTE,
+            },
+            Leaf {
+                at: 32,
+                shape: SHARED,
+            },
+            Leaf {
+                at: 40,
+                shape: BOXED,
+            },
+        ],
+        &[
+            Leaf {
+                at: 32,
+                shape: SHARED,
+            },
+            Leaf {
+                at: 40,
+                shape: BOXED,
+            },
+        ],
+    ),
+];
+
+#[test]
+fn types_have_leaves(rt: HostRuntime) {
+    let mut types = Types::new(rt.alloc());
+    let shapes = [
+        TyShape::Int(IntKind::U8),
+        TyShape::Int(IntKind::I32),
+        TyShape::Ref(false, Ty(0)),
+        TyShape::Boxed(Ty(1)),
+        TyShape::Cell(Ty(2)),
+        TyShape::Array(Ty(2), 2),
+        TyShape::Unit,
+    ];
+    for shape in shapes {
+        let _ = add(&mut types, shape);
+    }
+    let _ = add_tuple(rt.alloc(), &mut types, &[Ty(0), Ty(2), Ty(3)]);
+    let _ = add_tuple(rt.alloc(), &mut types, &[Ty(5), Ty(4), Ty(7), Ty(6)]);
+    for (ty, wanted, retagged) in LEAVES {
+        assert!(rt;
+            has_leaves(rt.alloc(), &types, Ty(ty), wanted, retagged),
+            "{ty}"
+        );
     }
 }
 

@@ -206,7 +206,51 @@ fn structs_are_declared_and_defined(rt: HostRuntime) {
     assert_eq!(rt; facts(&types, Ty(3)), Some([false, false, false, false]));
     assert!(rt; define(rt.alloc(), &mut types, whole, &[list_ty, Ty(3)]));
     assert_eq!(rt; facts(&types, whole_ty), Some([false, false, false, false]));
+    assert_eq!(rt; pieces(&types, whole_ty), Some((true, None, Some(Ty(3)))));
     assert!(rt; copies_well(rt.alloc(), &types));
+}
+
+/// Whether a type is sized, what it is made around, and its second part or field.
+fn pieces(types: &Types, ty: Ty) -> Option<(bool, Option<Ty>, Option<Ty>)> {
+    if ty.0 >= types.count() {
+        return None;
+    }
+    Some((types.is_sized(ty), types.content(ty), types.part(ty, 1)))
+}
+
+#[test]
+fn types_have_sizes_and_pieces(rt: HostRuntime) {
+    let mut types = Types::new(rt.alloc());
+    let rows = [
+        (TyShape::Int(IntKind::I32), true, None),
+        (TyShape::Slice(Ty(0)), false, Some(Ty(0))),
+        (TyShape::Ref(false, Ty(1)), true, Some(Ty(1))),
+        (TyShape::Raw(true, Ty(1)), true, Some(Ty(1))),
+        (TyShape::Boxed(Ty(1)), false, Some(Ty(1))),
+        (TyShape::Slice(Ty(1)), false, Some(Ty(1))),
+        (TyShape::Ref(true, Ty(5)), false, Some(Ty(5))),
+        (TyShape::Array(Ty(1), 3), false, Some(Ty(1))),
+        (TyShape::Array(Ty(2), 3), true, Some(Ty(2))),
+        (TyShape::Raw(false, Ty(7)), false, Some(Ty(7))),
+        (TyShape::Cell(Ty(6)), false, Some(Ty(6))),
+        (TyShape::Slice(Ty(2)), false, Some(Ty(2))),
+        (TyShape::Ref(false, Ty(11)), true, Some(Ty(11))),
+        (TyShape::UnsafeCell(Ty(12)), true, Some(Ty(12))),
+    ];
+    let mut next = 0;
+    for (shape, sized, content) in rows {
+        assert_eq!(rt; types.find(&shape), None);
+        assert_eq!(rt; add(&mut types, shape), Some(Ty(next)));
+        assert_eq!(rt; pieces(&types, Ty(next)), Some((sized, content, None)));
+        next = next.wrapping_add(1);
+    }
+    assert_eq!(rt; types.find(&TyShape::Boxed(Ty(1))), Some(Ty(4)));
+    let pair = add_pair(rt.alloc(), &mut types, Ty(0), Ty(2));
+    assert_eq!(rt; pair, Some(Ty(14)));
+    assert_eq!(rt; pieces(&types, Ty(14)), Some((true, None, Some(Ty(2)))));
+    let pair = add_pair(rt.alloc(), &mut types, Ty(0), Ty(1));
+    assert_eq!(rt; pair, Some(Ty(15)));
+    assert_eq!(rt; pieces(&types, Ty(15)), Some((false, None, Some(Ty(1)))));
 }
 
 /// Whether these are the types of a row, by their numbers.
@@ -355,6 +399,11 @@ fn built_in_calls_have_heads(rt: HostRuntime) {
         (Builtin::LayoutAlign, Some(0), None, 3, 1),
         (Builtin::Alloc, Some(0), None, 6, 23),
         (Builtin::Dealloc, Some(22), Some(0), 6, 6),
+        // T is no type, or a slice.
+        (Builtin::SizeOf, None, None, 26, 1),
+        (Builtin::LayoutNew, None, None, 99, 0),
+        (Builtin::AlignOf, None, None, 16, 1),
+        (Builtin::IsNull, Some(24), None, 16, 5),
     ];
     for (b, first, second, ty, answer) in wrong {
         assert!(rt; !is_row(&types, b, first, second, ty, answer), "{b:?}");

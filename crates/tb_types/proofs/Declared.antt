@@ -9,10 +9,13 @@ use Rattle.tb_types.specs.declared.shape.TyShape.TheVariants.{Struct}
 use Rattle.tb_types.specs.declared.item.Field.{Field}
 use Rattle.tb_types.specs.declared.item.Item.{Item}
 use Rattle.tb_types.specs.declared.facts.Facts.{Facts}
+use Rattle.tb_types.specs.declared.known.Known.{Known}
 use Rattle.tb_types.specs.Table.{TypeTable, IsType, IsDeclared, shape_at, fields_of, fields_at, item_named, with_item, Extends}
 use Rattle.tb_types.specs.Folded.{Node, node_in, node_by, node_of, parts_in, folded_at, folded, depth_of, defined_in, fits_by}
+use Rattle.tb_types.specs.Trees.{StructTree}
 use Rattle.tb_types.specs.Facts.{facts_by}
-use Rattle.tb_types.specs.Sound.{AreTypes, AreFacts}
+use Rattle.tb_types.specs.Known.{known_by}
+use Rattle.tb_types.specs.Sound.{AreTypes, AreKnown}
 use Rattle.tb_types.proofs.Folding.{same_at, same_folded}
 use Rattle.tb_types.proofs.Within.{get_left, get_found, all_to, parts_types}
 
@@ -27,14 +30,14 @@ module _ (types : TypeTable) (sound : AreTypes types) (name : List ℕ) (copy : 
   abbrev longer : TypeTable
   longer = with_item types name copy
 
-  same_node : (shape : TyShape) → IfSome (item_named shape) (IsDeclared types) → node_in longer.items shape ≡ node_in types.items shape
-  same_node (Struct number) h = ap (λ (item : Option Item). record { shape = Struct number; item = item; parts = parts_in (Struct number) item }) (get_left types.items (fresh ∷ []) number h)
+  same_node : (shape : TyShape) → IfSome (item_named shape) (IsDeclared types) → node_in longer shape ≡ node_in types shape
+  same_node (Struct number) h = ap (λ (item : Option Item). record { shape = Struct number; item = item; parts = parts_in (Struct number) item; tree = StructTree number }) (get_left types.items (fresh ∷ []) number h)
   same_node shape h = refl
 
   same_declared : (ty : Ty) → IsType types ty → node_of longer ty ≡ node_of types ty
   same_declared ty h =
       let found : (shape : TyShape) × (shape_at types ty ≡ Some shape) = get_found types.shapes ty.0 h in
-      ap (node_by longer.items) found.1 ∙ same_node found.0 (sound.declared ty found.0 found.1) ∙ sym (ap (node_by types.items) found.1)
+      ap (node_by longer) found.1 ∙ same_node found.0 (sound.declared ty found.0 found.1) ∙ sym (ap (node_by types) found.1)
 
   deep_declared : depth_of longer ≡ depth_of types
   unfolding depth_of
@@ -78,10 +81,10 @@ module _ (types : TypeTable) (sound : AreTypes types) (name : List ℕ) (copy : 
     ends = ends_declared;
   }
 
-  pub facts_declared : (facts : List Facts) → AreFacts types facts → AreFacts longer facts
-  facts_declared facts are = record {
+  pub known_declared : (known : List Known) → AreKnown types known → AreKnown longer known
+  known_declared known are = record {
     len = are.len;
-    each = λ ty h. are.each ty h ∙ ap Some (sym (kept_declared facts_by ty h));
+    each = λ ty h. are.each ty h ∙ ap Some (sym (kept_declared known_by ty h));
   }
 
   pub extends_declared : Extends types longer

@@ -12,14 +12,18 @@ use Rattle.tb_types.specs.declared.shape.TyShape.TheVariants.{Struct}
 use Rattle.tb_types.specs.declared.item.Field.{Field}
 use Rattle.tb_types.specs.declared.item.Item.{Item}
 use Rattle.tb_types.specs.declared.facts.Facts.{Facts}
+use Rattle.tb_types.specs.declared.known.Known.{Known}
 use Rattle.tb_types.specs.Table.{TypeTable, IsType, IsDeclared, shape_at, item_at, fields_of, fields_at, item_named, IsKept, Extends}
 use Rattle.tb_types.specs.Folded.{Node, node_in, node_by, node_of, item_in, parts_in, types_in, types_of, folded_at, folded, depth_of, defined_in, fits_by, is_known}
-use Rattle.tb_types.specs.Facts.{facts_by, facts_of}
-use Rattle.tb_types.specs.Sound.{IsField, AreTypes, AreFacts}
+use Rattle.tb_types.specs.Trees.{StructTree}
+use Rattle.tb_types.specs.Facts.{facts_by, is_complete}
+use Rattle.tb_types.specs.Known.{known_by, known_of, known_at, fact_at}
+use Rattle.tb_types.specs.Sound.{IsField, AreTypes, AreKnown}
 use Rattle.tb_types.proofs.Folding.{plus, plus-is, same_at, same_folded, fits_within}
-use Rattle.tb_types.proofs.Complete.{IsReady, known_of, parts_ready}
+use Rattle.tb_types.proofs.Complete.{IsReady, struct_known, parts_ready}
 use Rattle.tb_types.proofs.Within.{node_found, get_same, get_other, get_found, all_to, all_both, true_all, fields_all, parts_types}
-use Rattle.tb_types.proofs.Interned.{power, fits_node}
+use Rattle.tb_types.proofs.Interned.{power, fits_node, known_found}
+use Rattle.tb_types.proofs.Knowing.{known_facts}
 
 defined_one_more : (items : List Item) (number : ℕ) (item : Item) (fields : List Field) → slice_get items number ≡ Some item → item.fields ≡ None
     → defined_in (slice_set items number (record item { fields = Some fields })) ≡ suc (defined_in items)
@@ -58,42 +62,42 @@ module _ (types : TypeTable) (sound : AreTypes types) (number : ℕ) (item : Ite
       let f : fields_of (slice_get types.items other) ≡ None = ap (λ n. fields_of (slice_get types.items n)) e ∙ ap fields_of found ∙ unset in
       true≢false (sym h ∙ ap is_some f)
 
-  same_in : (shape : TyShape) → is_known shape (item_in types.items shape) ≡ true → node_in wider.items shape ≡ node_in types.items shape
-  same_in (Struct other) h = ap (λ (i : Option Item). record { shape = Struct other; item = i; parts = parts_in (Struct other) i }) (get_other types.items number other full (other_struct other h))
+  same_in : (shape : TyShape) → is_known shape (item_in types.items shape) ≡ true → node_in wider shape ≡ node_in types shape
+  same_in (Struct other) h = ap (λ (i : Option Item). record { shape = Struct other; item = i; parts = parts_in (Struct other) i; tree = StructTree other }) (get_other types.items number other full (other_struct other h))
   same_in shape h = refl
 
   same_ready : (ty : Ty) → IsReady types ty → node_of wider ty ≡ node_of types ty
   same_ready ty h =
       let shape : (shape : TyShape) × (shape_at types ty ≡ Some shape) = get_found types.shapes ty.0 h.0 in
-      node_found wider ty shape.0 shape.1 ∙ same_in shape.0 (known_of types sound ty shape.0 shape.1 h) ∙ sym (node_found types ty shape.0 shape.1)
+      node_found wider ty shape.0 shape.1 ∙ same_in shape.0 (struct_known types sound ty shape.0 shape.1 h) ∙ sym (node_found types ty shape.0 shape.1)
 
   fits_ready : (ty : Ty) → IsReady types ty → folded_at fits_by wider (depth_of types) ty ≡ true
   fits_ready ty h = same_at types wider (IsReady types) same_ready (parts_ready types sound) fits_by (depth_of types) ty h ∙ sound.ends ty h.0
 
   -- a type that names the struct, or one that is made of the same as before
-  own_or_same : (shape : TyShape) → (shape ≡ Struct number) ⊎ (node_in wider.items shape ≡ node_in types.items shape)
+  own_or_same : (shape : TyShape) → (shape ≡ Struct number) ⊎ (node_in wider shape ≡ node_in types shape)
   own_or_same (Struct other) = elim (cases_order other number) [
     | inl e ↦ inl (ap Struct e)
-    | inr apart ↦ inr (ap (λ (i : Option Item). record { shape = Struct other; item = i; parts = parts_in (Struct other) i }) (get_other types.items number other full (λ e. elim apart [ inl below ↦ omega arith | inr above ↦ omega arith ])))
+    | inr apart ↦ inr (ap (λ (i : Option Item). record { shape = Struct other; item = i; parts = parts_in (Struct other) i; tree = StructTree other }) (get_other types.items number other full (λ e. elim apart [ inl below ↦ omega arith | inr above ↦ omega arith ])))
   ]
   own_or_same shape = inr refl
 
-  own_or_old : (ty : Ty) → IsType types ty → (node_of wider ty ≡ node_in wider.items (Struct number)) ⊎ (node_of wider ty ≡ node_of types ty)
+  own_or_old : (ty : Ty) → IsType types ty → (node_of wider ty ≡ node_in wider (Struct number)) ⊎ (node_of wider ty ≡ node_of types ty)
   own_or_old ty h =
       let found_shape : (shape : TyShape) × (shape_at types ty ≡ Some shape) = get_found types.shapes ty.0 h in
       elim (own_or_same found_shape.0) [
-        | inl own ↦ inl (ap (node_by wider.items) found_shape.1 ∙ ap (node_in wider.items) own)
-        | inr old ↦ inr (ap (node_by wider.items) found_shape.1 ∙ old ∙ sym (ap (node_by types.items) found_shape.1))
+        | inl own ↦ inl (ap (node_by wider) found_shape.1 ∙ ap (node_in wider) own)
+        | inr old ↦ inr (ap (node_by wider) found_shape.1 ∙ old ∙ sym (ap (node_by types) found_shape.1))
       ]
 
-  own_parts : (node_in wider.items (Struct number)).parts ≡ types_in fields
+  own_parts : (node_in wider (Struct number)).parts ≡ types_in fields
   own_parts = ap (λ (i : Option Item). types_of (fields_of i)) here
 
-  own_fits : (ty : Ty) → node_of wider ty ≡ node_in wider.items (Struct number) → folded_at fits_by wider (suc (depth_of types)) ty ≡ true
+  own_fits : (ty : Ty) → node_of wider ty ≡ node_in wider (Struct number) → folded_at fits_by wider (suc (depth_of types)) ty ≡ true
   unfolding folded_at
   own_fits ty e =
       ap (λ (node : Node). fits_by node (map (folded_at fits_by wider (depth_of types)) node.parts)) e
-      ∙ fits_node (node_in wider.items (Struct number)) (folded_at fits_by wider (depth_of types))
+      ∙ fits_node (node_in wider (Struct number)) (folded_at fits_by wider (depth_of types))
       (subst (AllByRecursion (λ part. folded_at fits_by wider (depth_of types) part ≡ true)) (sym own_parts)
       (fields_all (λ part. folded_at fits_by wider (depth_of types) part ≡ true) fields (all_to fields are (λ field is. fits_ready field.ty (is.is_type, is.complete)))))
 
@@ -165,17 +169,24 @@ module _ (types : TypeTable) (sound : AreTypes types) (number : ℕ) (item : Ite
     ends = ends_defined;
   }
 
-  -- the facts of what lies in a struct that is defined now were known before
-  pub facts_known : (facts : List Facts) → AreFacts types facts → (other : ℕ) (given : List Field) → fields_at wider other ≡ Some given → AllByRecursion (λ (field : Field). slice_get facts field.ty.0 ≡ Some (facts_of wider field.ty)) given
-  facts_known facts kept other given e = elim (cases_order other number) [
+  -- what is kept of a field of a struct that is defined now was right before
+  pub fields_known : (known : List Known) → AreKnown types known → (other : ℕ) (given : List Field) → fields_at wider other ≡ Some given → AllByRecursion (λ (field : Field). slice_get known field.ty.0 ≡ Some (known_of wider field.ty)) given
+  fields_known known kept other given e = elim (cases_order other number) [
     | inl own ↦
         let f : fields_at wider number ≡ Some fields = ap fields_of here in
         let g : fields_at wider number ≡ Some given = ap (λ n. fields_at wider n) (sym own) ∙ e in
         let s : fields ≡ given = cc in
-        subst (AllByRecursion (λ (field : Field). slice_get facts field.ty.0 ≡ Some (facts_of wider field.ty))) s (all_to fields are (λ field is. kept.each field.ty is.is_type ∙ ap Some (sym (kept_defined facts_by field.ty (is.is_type, is.complete)))))
+        subst (AllByRecursion (λ (field : Field). slice_get known field.ty.0 ≡ Some (known_of wider field.ty))) s (all_to fields are (λ field is. kept.each field.ty is.is_type ∙ ap Some (sym (kept_defined known_by field.ty (is.is_type, is.complete)))))
     | inr apart ↦ all_to given (sound.fields other given (ap fields_of (sym (get_other types.items number other full (λ e. elim apart [ inl below ↦ omega arith | inr above ↦ omega arith ]))) ∙ e))
-        (λ field is. kept.each field.ty is.is_type ∙ ap Some (sym (kept_defined facts_by field.ty (is.is_type, is.complete))))
+        (λ field is. kept.each field.ty is.is_type ∙ ap Some (sym (kept_defined known_by field.ty (is.is_type, is.complete))))
   ]
+
+  -- and so was what is kept of a type in which each struct was defined
+  pub ready_known : (known : List Known) → AreKnown types known → (ty : Ty) → IsType types ty → (fact_at known ty).complete ≡ true → slice_get known ty.0 ≡ Some (known_of wider ty)
+  ready_known known kept ty h complete =
+      let e : known_at known ty ≡ known_of types ty = known_found known ty (known_of types ty) (kept.each ty h) in
+      let c : is_complete types ty ≡ true = ap (λ (fact : Facts). fact.complete) (sym (known_facts types sound ty h)) ∙ ap (λ (k : Known). k.facts.complete) (sym e) ∙ complete in
+      kept.each ty h ∙ ap Some (sym (kept_defined known_by ty (h, c)))
 
   extends_item : (other : ℕ) (old : Item) → item_at types other ≡ Some old → (now : Item) × (item_at wider other ≡ Some now) × IsKept old now
   extends_item other old e = elim (cases_order other number) [

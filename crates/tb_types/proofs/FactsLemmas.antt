@@ -7,7 +7,7 @@ use Rattle.tb_types.specs.declared.facts.Facts.{Facts}
 use Rattle.tb_types.specs.Folded.{types_in}
 use Rattle.tb_types.specs.Facts.{beside, joined}
 
-and_again : (a b c : Bool) → ((a && b) && c) ≡ (a && (b && c))
+pub and_again : (a b c : Bool) → ((a && b) && c) ≡ (a && (b && c))
 and_again true b c = refl
 and_again false b c = refl
 
@@ -15,7 +15,7 @@ or_again : (a b c : Bool) → ((a || b) || c) ≡ (a || (b || c))
 or_again true b c = refl
 or_again false b c = refl
 
-drop_here : {X : Type 0} (xs : List X) (i : ℕ) (x : X) → slice_get xs i ≡ Some x → drop i xs ≡ x ∷ drop (i + 1) xs
+pub drop_here : {X : Type 0} (xs : List X) (i : ℕ) (x : X) → slice_get xs i ≡ Some x → drop i xs ≡ x ∷ drop (i + 1) xs
 drop_here [] i x h = cc
 drop_here (y ∷ xs) zero x h = let e : y ≡ x = cc in ap (λ z. z ∷ xs) e
 drop_here (y ∷ xs) (suc i) x h = drop_here xs i x h ∙ ap (λ n. x ∷ drop n (y ∷ xs)) (let e : suc (i + 1) ≡ suc i + 1 = omega arith in e)
@@ -31,6 +31,7 @@ joined_more all fact rest i = record {
   retag = or_again all.retag fact.retag (beside rest).retag i;
   owns_box = or_again all.owns_box fact.owns_box (beside rest).owns_box i;
   complete = and_again all.complete fact.complete (beside rest).complete i;
+  sized = and_again all.sized fact.sized (beside rest).sized i;
 }
 
 -- one more part of a list

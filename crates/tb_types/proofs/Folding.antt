@@ -17,7 +17,7 @@ pub map_all : {X Y : Type 0} (P : X → Type 0) (f g : X → Y) (xs : List X) �
 map_all P f g [] h e = refl
 map_all P f g (x ∷ xs) h e = ap (λ y. y ∷ map f xs) (e x h.0) ∙ ap (λ ys. g x ∷ ys) (map_all P f g xs h.1 e)
 
-nothing : {X : Type 0} (xs : List X) (bs : List Bool) → nat_eq (length xs) 0 ≡ true → xs ≡ []
+pub nothing : {X : Type 0} (xs : List X) (bs : List Bool) → nat_eq (length xs) 0 ≡ true → xs ≡ []
 nothing [] bs h = refl
 nothing (x ∷ xs) bs h = let e : length (x ∷ xs) ≡ 0 = (unsigned_Decides (length (x ∷ xs)) 0).0 h in absurd (omega arith)
 

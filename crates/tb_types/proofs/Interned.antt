@@ -10,13 +10,17 @@ use Rattle.tb_types.specs.declared.shape.Ty.{Ty}
 use Rattle.tb_types.specs.declared.shape.TyShape.{TyShape}
 use Rattle.tb_types.specs.declared.item.Field.{Field}
 use Rattle.tb_types.specs.declared.facts.Facts.{Facts}
+use Rattle.tb_types.specs.declared.known.Known.{Known}
 use Rattle.tb_types.specs.Shapes.{shape_eq}
 use Rattle.tb_types.specs.Table.{TypeTable, IsType, IsDeclared, shape_at, named_in, item_named, with_shape, Extends}
-use Rattle.tb_types.specs.Folded.{Node, node_in, node_by, node_of, folded_at, folded, depth_of, defined_in, fits_by}
-use Rattle.tb_types.specs.Facts.{facts_by, facts_of, fact_at, none_below}
-use Rattle.tb_types.specs.Sound.{IsField, AreTypes, AreFacts}
+use Rattle.tb_types.specs.Folded.{Node, node_in, node_of, item_in, parts_in, folded_at, folded, depth_of, defined_in, fits_by}
+use Rattle.tb_types.specs.Trees.{TypeTree, tree_of}
+use Rattle.tb_types.specs.Facts.{facts_by}
+use Rattle.tb_types.specs.Known.{known_by, known_of, known_at, none_known}
+use Rattle.tb_types.specs.Sound.{IsField, AreTypes, AreKnown}
 use Rattle.tb_types.proofs.Folding.{same_at, same_folded, folded_is, fits_within, map_all}
-use Rattle.tb_types.proofs.Within.{get_left, get_seam, all_to, all_true, parts_all, items_all, parts_types}
+use Rattle.tb_types.proofs.Within.{get_left, get_seam, get_found, node_found, all_to, all_true, parts_all, items_all, parts_types}
+use Rattle.tb_types.proofs.Trees.{tree_same, tree_kept}
 
 pub power : (n : ℕ) → 1 ≤ 3 ^ n
 power zero = omega arith
@@ -28,9 +32,9 @@ fits_node node f h =
     ap (λ b. b && list_all (λ c. c) (map f node.parts)) ((unsigned_Decides (length node.parts) (length (map f node.parts))).1 (sym (length-map node.parts f)))
     ∙ all_true f node.parts h
 
--- the kept fact of a type
-pub fact_found : (facts : List Facts) (ty : Ty) (fact : Facts) → slice_get facts ty.0 ≡ Some fact → fact_at facts ty ≡ fact
-fact_found facts ty fact e = get_or_from_slice_get facts ty.0 fact none_below e
+-- what is kept of a type
+pub known_found : (known : List Known) (ty : Ty) (found : Known) → slice_get known ty.0 ≡ Some found → known_at known ty ≡ found
+known_found known ty found e = get_or_from_slice_get known ty.0 found none_known e
 
 pub extends_itself : (types : TypeTable) → Extends types types
 extends_itself types = record {
@@ -42,8 +46,21 @@ module _ (types : TypeTable) (sound : AreTypes types) (shape : TyShape) where
   abbrev pushed : TypeTable
   pushed = record types { shapes = types.shapes ++ shape ∷ [] }
 
+  keeps_shapes : (ty : Ty) (other : TyShape) → slice_get types.shapes ty.0 ≡ Some other → slice_get pushed.shapes ty.0 ≡ Some other
+  keeps_shapes ty other e = get_left types.shapes (shape ∷ []) ty.0 (slice_get_within types.shapes ty.0 other e) ∙ e
+
+  -- what names types that were there is made of the same
+  same_node : (other : TyShape) → AllByRecursion (IsType types) (named_in other) → node_in pushed other ≡ node_in types other
+  same_node other h =
+      ap (λ (tree : TypeTree). record { shape = other; item = item_in types.items other; parts = parts_in other (item_in types.items other); tree = tree })
+      (tree_same (tree_of pushed) (tree_of types) other (all_to (named_in other) h (tree_kept types.shapes sound.names pushed.shapes keeps_shapes)))
+
   same_pushed : (ty : Ty) → IsType types ty → node_of pushed ty ≡ node_of types ty
-  same_pushed ty h = ap (node_by types.items) (get_left types.shapes (shape ∷ []) ty.0 h)
+  same_pushed ty h =
+      let found : (other : TyShape) × (shape_at types ty ≡ Some other) = get_found types.shapes ty.0 h in
+      node_found pushed ty found.0 (keeps_shapes ty found.0 found.1)
+      ∙ same_node found.0 (all_to (named_in found.0) (sound.names ty found.0 found.1) (λ part lower. omega arith))
+      ∙ sym (node_found types ty found.0 found.1)
 
   fits_pushed : (depth : ℕ) (ty : Ty) → IsType types ty → folded_at fits_by types depth ty ≡ true → folded_at fits_by pushed depth ty ≡ true
   fits_pushed depth ty h f = same_at types pushed (IsType types) same_pushed (parts_types types sound) fits_by depth ty h ∙ f
@@ -68,20 +85,20 @@ module _ (types : TypeTable) (sound : AreTypes types) (shape : TyShape) where
   kept_pushed step ty h = same_folded types pushed (IsType types) same_pushed (parts_types types sound) step ty h (sound.ends ty h) (ends_old ty h)
 
   module _ (named : AllByRecursion (IsType types) (named_in shape)) (declared : IfSome (item_named shape) (IsDeclared types)) where
-    own_parts : AllByRecursion (IsType types) (node_in types.items shape).parts
-    own_parts = parts_all (IsType types) types.items shape named (items_all (IsType types) types shape (λ item fields e. all_to fields (sound.fields item fields e) (λ field is. is.is_type)))
+    own_parts : AllByRecursion (IsType types) (node_in types shape).parts
+    own_parts = parts_all (IsType types) types shape named (items_all (IsType types) types shape (λ item fields e. all_to fields (sound.fields item fields e) (λ field is. is.is_type)))
 
-    own_node : (ty : Ty) → ty.0 ≡ length types.shapes → node_of pushed ty ≡ node_in types.items shape
-    own_node ty e = ap (node_by types.items) (get_seam types.shapes shape ty.0 e)
+    own_node : (ty : Ty) → ty.0 ≡ length types.shapes → node_of pushed ty ≡ node_in types shape
+    own_node ty e = node_found pushed ty shape (get_seam types.shapes shape ty.0 e) ∙ same_node shape named
 
-    own_fits : (ty : Ty) → ty.0 ≡ length types.shapes → AllByRecursion (λ part. folded_at fits_by pushed (depth_of types) part ≡ true) (node_in types.items shape).parts → folded_at fits_by pushed (suc (depth_of types)) ty ≡ true
+    own_fits : (ty : Ty) → ty.0 ≡ length types.shapes → AllByRecursion (λ part. folded_at fits_by pushed (depth_of types) part ≡ true) (node_in types shape).parts → folded_at fits_by pushed (suc (depth_of types)) ty ≡ true
     unfolding folded_at
-    own_fits ty e all = ap (λ (node : Node). fits_by node (map (folded_at fits_by pushed (depth_of types)) node.parts)) (own_node ty e) ∙ fits_node (node_in types.items shape) (folded_at fits_by pushed (depth_of types)) all
+    own_fits ty e all = ap (λ (node : Node). fits_by node (map (folded_at fits_by pushed (depth_of types)) node.parts)) (own_node ty e) ∙ fits_node (node_in types shape) (folded_at fits_by pushed (depth_of types)) all
 
     own_ends : (ty : Ty) → ty.0 ≡ length types.shapes → folded_at fits_by pushed (depth_of pushed) ty ≡ true
     own_ends ty e =
-        let all : AllByRecursion (λ part. folded_at fits_by pushed (depth_of types) part ≡ true) (node_in types.items shape).parts =
-        all_to (node_in types.items shape).parts own_parts (λ part h. fits_pushed (depth_of types) part h (sound.ends part h)) in
+        let all : AllByRecursion (λ part. folded_at fits_by pushed (depth_of types) part ≡ true) (node_in types shape).parts =
+        all_to (node_in types shape).parts own_parts (λ part h. fits_pushed (depth_of types) part h (sound.ends part h)) in
         let one : 1 ≤ 3 ^ defined_in types.items = power (defined_in types.items) in
         raise ty (suc (depth_of types)) (omega arith) (own_fits ty e all)
 
@@ -131,20 +148,20 @@ module _ (types : TypeTable) (sound : AreTypes types) (shape : TyShape) where
       ends = ends_pushed;
     }
 
-    own_fact : (facts : List Facts) → AreFacts types facts → (ty : Ty) → ty.0 ≡ length types.shapes → facts_of pushed ty ≡ facts_by (node_in types.items shape) (map (fact_at facts) (node_in types.items shape).parts)
-    own_fact facts are ty own =
-        folded_is facts_by pushed ty (own_ends ty own)
-        ∙ ap (λ (node : Node). facts_by node (map (facts_of pushed) node.parts)) (own_node ty own)
-        ∙ ap (facts_by (node_in types.items shape)) (map_all (IsType types) (facts_of pushed) (fact_at facts) (node_in types.items shape).parts own_parts
-        (λ part h. kept_pushed facts_by part h ∙ sym (fact_found facts part (facts_of types part) (are.each part h))))
+    own_known : (known : List Known) → AreKnown types known → (ty : Ty) → ty.0 ≡ length types.shapes → known_of pushed ty ≡ known_by (node_in types shape) (map (known_at known) (node_in types shape).parts)
+    own_known known are ty own =
+        folded_is known_by pushed ty (own_ends ty own)
+        ∙ ap (λ (node : Node). known_by node (map (known_of pushed) node.parts)) (own_node ty own)
+        ∙ ap (known_by (node_in types shape)) (map_all (IsType types) (known_of pushed) (known_at known) (node_in types shape).parts own_parts
+        (λ part h. kept_pushed known_by part h ∙ sym (known_found known part (known_of types part) (are.each part h))))
 
-    pub facts_pushed : (facts : List Facts) → AreFacts types facts → AreFacts pushed (facts ++ facts_by (node_in types.items shape) (map (fact_at facts) (node_in types.items shape).parts) ∷ [])
-    facts_pushed facts are = record {
-      len = length-append facts (facts_by (node_in types.items shape) (map (fact_at facts) (node_in types.items shape).parts) ∷ []) ∙ ap (λ n. n + 1) are.len ∙ sym pushed_length;
+    pub known_pushed : (known : List Known) → AreKnown types known → AreKnown pushed (known ++ known_by (node_in types shape) (map (known_at known) (node_in types shape).parts) ∷ [])
+    known_pushed known are = record {
+      len = length-append known (known_by (node_in types shape) (map (known_at known) (node_in types shape).parts) ∷ []) ∙ ap (λ n. n + 1) are.len ∙ sym pushed_length;
       each = λ ty h. elim (old_or_own ty h) [
-        | inl old ↦ get_left facts (facts_by (node_in types.items shape) (map (fact_at facts) (node_in types.items shape).parts) ∷ []) ty.0 (let e : length facts ≡ length types.shapes = are.len in omega arith)
-            ∙ are.each ty old ∙ ap Some (sym (kept_pushed facts_by ty old))
-        | inr own ↦ get_seam facts (facts_by (node_in types.items shape) (map (fact_at facts) (node_in types.items shape).parts)) ty.0 (own ∙ sym are.len) ∙ ap Some (sym (own_fact facts are ty own))
+        | inl old ↦ get_left known (known_by (node_in types shape) (map (known_at known) (node_in types shape).parts) ∷ []) ty.0 (let e : length known ≡ length types.shapes = are.len in omega arith)
+            ∙ are.each ty old ∙ ap Some (sym (kept_pushed known_by ty old))
+        | inr own ↦ get_seam known (known_by (node_in types shape) (map (known_at known) (node_in types shape).parts)) ty.0 (own ∙ sym are.len) ∙ ap Some (sym (own_known known are ty own))
       ];
     }
 
@@ -157,9 +174,9 @@ module _ (types : TypeTable) (sound : AreTypes types) (shape : TyShape) where
 -- with a shape that may have been there
 module _ (types : TypeTable) (sound : AreTypes types) (shape : TyShape) where
   abbrev given : Bool → TypeTable
-  given known = record types { shapes = if known then types.shapes else types.shapes ++ shape ∷ [] }
+  given there = record types { shapes = if there then types.shapes else types.shapes ++ shape ∷ [] }
 
-  extends_given : (known : Bool) → Extends types (given known)
+  extends_given : (there : Bool) → Extends types (given there)
   extends_given true = extends_itself types
   extends_given false = extends_pushed types sound shape
 
@@ -167,16 +184,16 @@ module _ (types : TypeTable) (sound : AreTypes types) (shape : TyShape) where
   extends_with = extends_given (list_any (shape_eq shape) types.shapes)
 
   module _ (named : AllByRecursion (IsType types) (named_in shape)) (declared : IfSome (item_named shape) (IsDeclared types)) where
-    sound_given : (known : Bool) → IsDistinct shape_eq (given known).shapes → AreTypes (given known)
+    sound_given : (there : Bool) → IsDistinct shape_eq (given there).shapes → AreTypes (given there)
     sound_given true distinct = sound
     sound_given false distinct = sound_pushed types sound shape named declared distinct
 
     pub sound_with : IsDistinct shape_eq (with_shape types shape).shapes → AreTypes (with_shape types shape)
     sound_with = sound_given (list_any (shape_eq shape) types.shapes)
 
-    facts_given : (known : Bool) (facts : List Facts) → AreFacts types facts → AreFacts (given known) (if known then facts else facts ++ facts_by (node_in types.items shape) (map (fact_at facts) (node_in types.items shape).parts) ∷ [])
-    facts_given true facts are = are
-    facts_given false facts are = facts_pushed types sound shape named declared facts are
+    known_given : (there : Bool) (known : List Known) → AreKnown types known → AreKnown (given there) (if there then known else known ++ known_by (node_in types shape) (map (known_at known) (node_in types shape).parts) ∷ [])
+    known_given true known are = are
+    known_given false known are = known_pushed types sound shape named declared known are
 
-    pub facts_with : (facts : List Facts) → AreFacts types facts → AreFacts (with_shape types shape) (if list_any (shape_eq shape) types.shapes then facts else facts ++ facts_by (node_in types.items shape) (map (fact_at facts) (node_in types.items shape).parts) ∷ [])
-    facts_with = facts_given (list_any (shape_eq shape) types.shapes)
+    pub known_with : (known : List Known) → AreKnown types known → AreKnown (with_shape types shape) (if list_any (shape_eq shape) types.shapes then known else known ++ known_by (node_in types shape) (map (known_at known) (node_in types shape).parts) ∷ [])
+    known_with = known_given (list_any (shape_eq shape) types.shapes)

@@ -6,7 +6,6 @@ use Rattle.tb_types.specs.declared.shape.Ty.{Ty}
 use Rattle.tb_types.specs.declared.shape.TyShape.{TyShape}
 use Rattle.tb_types.specs.declared.shape.TyShape.TheVariants.{Tuple, Array, Struct, Boxed, Cell, UnsafeCell, Slice}
 use Rattle.tb_types.specs.declared.item.Field.{Field}
-use Rattle.tb_types.specs.declared.item.Item.{Item}
 use Rattle.tb_types.specs.Table.{TypeTable, IsType, shape_at, fields_of, fields_at, named_in}
 use Rattle.tb_types.specs.Folded.{node_in, node_by, node_of, item_in, types_in, types_of}
 use Rattle.tb_types.specs.Sound.{AreTypes}
@@ -62,15 +61,15 @@ fields_all P [] h = tt
 fields_all P (field ∷ fields) h = (h.0, fields_all P fields h.1)
 
 -- what holds of the types that a shape names and of those of the fields of its struct holds of its parts
-pub parts_all : (P : Ty → Type 0) (items : List Item) (shape : TyShape) → AllByRecursion P (named_in shape) → AllByRecursion P (types_of (fields_of (item_in items shape))) → AllByRecursion P (node_in items shape).parts
-parts_all P items (Tuple parts) named fields = named
-parts_all P items (Array part n) named fields = named
-parts_all P items (Struct item) named fields = fields
-parts_all P items (Boxed part) named fields = named
-parts_all P items (Cell part) named fields = named
-parts_all P items (UnsafeCell part) named fields = named
-parts_all P items (Slice part) named fields = named
-parts_all P items shape named fields = tt
+pub parts_all : (P : Ty → Type 0) (types : TypeTable) (shape : TyShape) → AllByRecursion P (named_in shape) → AllByRecursion P (types_of (fields_of (item_in types.items shape))) → AllByRecursion P (node_in types shape).parts
+parts_all P types (Tuple parts) named fields = named
+parts_all P types (Array part n) named fields = named
+parts_all P types (Struct item) named fields = fields
+parts_all P types (Boxed part) named fields = named
+parts_all P types (Cell part) named fields = named
+parts_all P types (UnsafeCell part) named fields = named
+parts_all P types (Slice part) named fields = named
+parts_all P types shape named fields = tt
 
 types_all : (P : Ty → Type 0) (found : Option (List Field)) → ((fields : List Field) → found ≡ Some fields → AllByRecursion (λ (field : Field). P field.ty) fields) → AllByRecursion P (types_of found)
 types_all P None each = tt
@@ -89,11 +88,11 @@ parts_types types sound ty h =
     all_to (named_in found.0) (sound.names ty found.0 found.1) (λ part lower. omega arith) in
     let fields : AllByRecursion (IsType types) (types_of (fields_of (item_in types.items found.0))) =
     items_all (IsType types) types found.0 (λ item fields e. all_to fields (sound.fields item fields e) (λ field is. is.is_type)) in
-    subst (λ (found_shape : Option TyShape). AllByRecursion (IsType types) (node_by types.items found_shape).parts) (sym found.1) (parts_all (IsType types) types.items found.0 named fields)
+    subst (λ (found_shape : Option TyShape). AllByRecursion (IsType types) (node_by types found_shape).parts) (sym found.1) (parts_all (IsType types) types found.0 named fields)
 
 -- a type has the node of its shape
-pub node_found : (types : TypeTable) (ty : Ty) (shape : TyShape) → shape_at types ty ≡ Some shape → node_of types ty ≡ node_in types.items shape
-node_found types ty shape e = ap (node_by types.items) e
+pub node_found : (types : TypeTable) (ty : Ty) (shape : TyShape) → shape_at types ty ≡ Some shape → node_of types ty ≡ node_in types shape
+node_found types ty shape e = ap (node_by types) e
 
 -- what holds of a list and of one more holds of both
 pub all_snoc : {X : Type 0} (P : X → Type 0) (xs : List X) (x : X) → AllByRecursion P xs → P x → AllByRecursion P (xs ++ x ∷ [])

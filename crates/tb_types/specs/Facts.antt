@@ -1,12 +1,13 @@
--- The tests of types: whether a type is Copy, is free of cells, holds something to retag, owns a box, has all of its structs.
-use Rattle.std.specs.Prelude.{◌<◌, [], length, slice_index_or, Bool, true, false, not, ◌&&◌, ◌||◌, List, Option, Some, None, is_some}
+-- The tests of types: whether a type is Copy, is free of cells, holds something to retag, owns a box, has all of its structs, is sized.
+use Rattle.std.specs.Prelude.{Bool, true, false, not, ◌&&◌, ◌||◌, List, Option, Some, None, is_some}
 use Rattle.std.specs.List.{list_all, list_any}
 use Rattle.tb_types.specs.declared.shape.Ty.{Ty}
 use Rattle.tb_types.specs.declared.shape.TyShape.{TyShape}
-use Rattle.tb_types.specs.declared.shape.TyShape.TheVariants.{Array, Struct, Ref, Boxed, Cell, UnsafeCell, Slice}
+use Rattle.tb_types.specs.declared.shape.TyShape.TheVariants.{Array, Struct, Ref, Raw, Boxed, Cell, UnsafeCell, Slice}
 use Rattle.tb_types.specs.declared.item.Item.{Item}
 use Rattle.tb_types.specs.declared.facts.Facts.{Facts}
 use Rattle.tb_types.specs.Table.{TypeTable, fields_of}
+use Rattle.tb_types.specs.Trees.{is_plain}
 use Rattle.tb_types.specs.Folded.{Node, folded}
 
 -- the facts of two parts side by side
@@ -17,6 +18,7 @@ joined one other = record {
   retag = one.retag || other.retag;
   owns_box = one.owns_box || other.owns_box;
   complete = one.complete && other.complete;
+  sized = one.sized && other.sized;
 }
 
 -- of parts side by side: Copy, free of cells and complete where all are, with something to retag or a box where one has it
@@ -27,6 +29,7 @@ beside parts = record {
   retag = list_any (λ (part : Facts). part.retag) parts;
   owns_box = list_any (λ (part : Facts). part.owns_box) parts;
   complete = list_all (λ (part : Facts). part.complete) parts;
+  sized = list_all (λ (part : Facts). part.sized) parts;
 }
 
 -- a struct is Copy where it derives it
@@ -38,19 +41,20 @@ derives_copy (Some item) = item.copy
 abbrev pub item_facts : Option Item → Facts → Facts
 item_facts item below = record below { copy = derives_copy item; complete = is_some (fields_of item) && below.complete }
 
--- by shape, with the facts of what lies in it
-abbrev pub facts_in : TyShape → Option Item → Facts → Facts
-facts_in (Array part n) item below = record below { retag = false; owns_box = false }
-facts_in (Struct number) item below = item_facts item below
-facts_in (Ref mutable to) item below = record below { copy = not mutable; retag = true }
-facts_in (Boxed part) item below = record below { copy = false; freeze = true; retag = true; owns_box = true }
-facts_in (Cell part) item below = record below { copy = false; freeze = false; retag = false; owns_box = false }
-facts_in (UnsafeCell part) item below = record below { copy = false; freeze = false; retag = false; owns_box = false }
-facts_in (Slice part) item below = record below { copy = false; retag = false; owns_box = false }
-facts_in shape item below = below
+-- by shape and struct, by whether the tree is plain, and by the facts of what lies in it
+abbrev pub facts_in : TyShape → Option Item → Bool → Facts → Facts
+facts_in (Array part n) item plain below = record below { retag = false; owns_box = false }
+facts_in (Struct number) item plain below = item_facts item below
+facts_in (Ref mutable to) item plain below = record below { copy = not mutable; retag = true; sized = plain }
+facts_in (Raw mutable to) item plain below = record below { sized = plain }
+facts_in (Boxed part) item plain below = record below { copy = false; freeze = true; retag = true; owns_box = true }
+facts_in (Cell part) item plain below = record below { copy = false; freeze = false; retag = false; owns_box = false }
+facts_in (UnsafeCell part) item plain below = record below { copy = false; freeze = false; retag = false; owns_box = false }
+facts_in (Slice part) item plain below = record below { copy = false; retag = false; owns_box = false; sized = false }
+facts_in shape item plain below = below
 
 abbrev pub facts_by : Node → List Facts → Facts
-facts_by node below = facts_in node.shape node.item (beside below)
+facts_by node below = facts_in node.shape node.item (is_plain node.tree) (beside below)
 
 abbrev pub facts_of : TypeTable → Ty → Facts
 facts_of types ty = folded facts_by types ty
@@ -72,12 +76,6 @@ owns_box types ty = (facts_of types ty).owns_box
 abbrev pub is_complete : TypeTable → Ty → Bool
 is_complete types ty = (facts_of types ty).complete
 
--- the facts that are kept for a type
-abbrev pub none_below : Facts
-none_below = beside []
-
-abbrev pub fact_at : List Facts → Ty → Facts
-fact_at facts ty = slice_index_or facts ty.0 none_below
-
-abbrev pub IsWithin : List Facts → Ty → Type 0
-IsWithin facts ty = ty.0 < length facts
+-- in the type, the fields that lie in it included, `[T]` stands directly behind a reference or raw pointer alone
+abbrev pub is_sized : TypeTable → Ty → Bool
+is_sized types ty = (facts_of types ty).sized

@@ -7,12 +7,14 @@ use Rattle.tb_types.specs.declared.shape.TyShape.TheVariants.{Unit, Tuple, Array
 use Rattle.tb_types.specs.declared.item.Field.{Field}
 use Rattle.tb_types.specs.declared.item.Item.{Item}
 use Rattle.tb_types.specs.Table.{TypeTable, shape_at, fields_of}
+use Rattle.tb_types.specs.Trees.{TypeTree, tree_in, tree_of}
 
--- a type's shape, the struct that it names, and the types of what lies in it directly
+-- a type's shape, the struct that it names, the types of what lies in it directly, and its tree
 pub record Node : Type 0 where
   pub shape : TyShape
   pub item : Option Item
   pub parts : List Ty
+  pub tree : TypeTree
 
 abbrev pub types_in : List Field → List Ty
 types_in fields = map (λ (field : Field). field.ty) fields
@@ -35,16 +37,16 @@ abbrev pub item_in : List Item → TyShape → Option Item
 item_in items (Struct number) = slice_get items number
 item_in items shape = None
 
-abbrev pub node_in : List Item → TyShape → Node
-node_in items shape = record { shape = shape; item = item_in items shape; parts = parts_in shape (item_in items shape) }
+abbrev pub node_in : TypeTable → TyShape → Node
+node_in types shape = record { shape = shape; item = item_in types.items shape; parts = parts_in shape (item_in types.items shape); tree = tree_in shape (tree_of types) }
 
 -- a number that is no type counts as `()`
-abbrev pub node_by : List Item → Option TyShape → Node
-node_by items None = node_in items Unit
-node_by items (Some shape) = node_in items shape
+abbrev pub node_by : TypeTable → Option TyShape → Node
+node_by types None = node_in types Unit
+node_by types (Some shape) = node_in types shape
 
 abbrev pub node_of : TypeTable → Ty → Node
-node_of types ty = node_by types.items (shape_at types ty)
+node_of types ty = node_by types (shape_at types ty)
 
 -- going down as deep as the number says
 unfoldable pub folded_at : {A : Type 0} → (Node → List A → A) → TypeTable → ℕ → Ty → A

@@ -10,7 +10,7 @@ use Rattle.tb_types.specs.declared.item.Field.{Field}
 use Rattle.tb_types.specs.declared.form.Around.{Around}
 use Rattle.tb_types.specs.declared.form.Around.TheVariants.{Boxed, Cell, UnsafeCell, Slice, Elements, Ref, Raw}
 use Rattle.tb_types.specs.declared.form.Form.{Form}
-use Rattle.tb_types.specs.declared.form.Form.TheVariants.{T, Of, OfOf, Unit as Nothing, Truth, Int, Bytes, Thin, Layout}
+use Rattle.tb_types.specs.declared.form.Form.TheVariants.{T, Of, Within, Unit, Bool as OfBool, Int, BytePointer, Thin, Layout}
 use Rattle.tb_types.specs.Same.{ty_eq}
 use Rattle.tb_types.specs.Table.{TypeTable, shape_at, fields_at}
 
@@ -49,13 +49,13 @@ abbrev pub is_int : IntKind → Option TyShape → Bool
 is_int kind (Some (IntShape found)) = kind_eq found kind
 is_int kind shape = false
 
-abbrev pub is_truth : Option TyShape → Bool
-is_truth (Some BoolShape) = true
-is_truth shape = false
+abbrev pub is_bool : Option TyShape → Bool
+is_bool (Some BoolShape) = true
+is_bool shape = false
 
-abbrev pub is_nothing : Option TyShape → Bool
-is_nothing (Some UnitShape) = true
-is_nothing shape = false
+abbrev pub is_unit : Option TyShape → Bool
+is_unit (Some UnitShape) = true
+is_unit shape = false
 
 abbrev pub is_slice : Option TyShape → Bool
 is_slice (Some (SliceShape part)) = true
@@ -85,10 +85,10 @@ is_layout types shape = false
 abbrev pub is_form : TypeTable → Form → Ty → Ty → Bool
 is_form types T t ty = ty_eq ty t
 is_form types (Of around) t ty = is_ty t (held types around (Some ty))
-is_form types (OfOf outer inner) t ty = is_ty t (held types inner (held types outer (Some ty)))
-is_form types Nothing t ty = is_nothing (shape_at types ty)
-is_form types Truth t ty = is_truth (shape_at types ty)
+is_form types (Within outer inner) t ty = is_ty t (held types inner (held types outer (Some ty)))
+is_form types Unit t ty = is_unit (shape_at types ty)
+is_form types OfBool t ty = is_bool (shape_at types ty)
 is_form types (Int kind) t ty = is_int kind (shape_at types ty)
-is_form types Bytes t ty = is_byte types (held types (Raw true) (Some ty))
+is_form types BytePointer t ty = is_byte types (held types (Raw true) (Some ty))
 is_form types (Thin mutable) t ty = is_thin types (held types (Raw mutable) (Some ty))
 is_form types Layout t ty = is_layout types (shape_at types ty)

@@ -1,9 +1,14 @@
 pub mod Same
 pub mod Shapes
 pub mod Table
+pub mod Trees
 pub mod Folded
 pub mod Facts
+pub mod Extent
+pub mod Capped
+pub mod Known
 pub mod Sound
 pub mod Kept
+pub mod Pieces
 pub mod Forms
 pub mod Heads

@@ -1,6 +1,6 @@
 -- Types as contracts see them: the shapes, each at the number of its type, and the declared structs, each at its number.
 use Rattle.std.specs.Prelude.{◌≡◌, ℕ, ◌<◌, Bool, List, [], ◌∷◌, ◌++◌, length, Option, Some, None, is_some, slice_get, slice_set, if◌then◌else◌}
-use Rattle.std.specs.List.{list_any, position_or_len}
+use Rattle.std.specs.List.{AllByRecursion, list_any, position_or_len}
 use Rattle.tb_types.specs.declared.shape.Ty.{Ty}
 use Rattle.tb_types.specs.declared.shape.TyShape.{TyShape}
 use Rattle.tb_types.specs.declared.shape.TyShape.TheVariants.{Tuple, Array, Struct, Ref, Raw, Boxed, Cell, UnsafeCell, Slice}
@@ -48,6 +48,10 @@ named_in (Cell part) = part ∷ []
 named_in (UnsafeCell part) = part ∷ []
 named_in (Slice part) = part ∷ []
 named_in shape = []
+
+-- each shape names types of lesser numbers
+abbrev pub AreNamed : List TyShape → Type 0
+AreNamed shapes = (ty : Ty) (shape : TyShape) → slice_get shapes ty.0 ≡ Some shape → AllByRecursion (λ (part : Ty). part.0 < ty.0) (named_in shape)
 
 -- the number of the struct that a shape names
 abbrev pub item_named : TyShape → Option ℕ

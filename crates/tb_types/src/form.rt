@@ -1,6 +1,6 @@
 ghost use Rattle.std.specs.Prelude.{◌≡◌, [], Some};
 ghost use Rattle.std.specs.Option.{option_copied};
-ghost use Rattle.tb_types.specs.Forms.{content_of, held, is_ty, is_int, is_truth, is_nothing, is_byte, is_thin, are_sizes, is_layout, is_form};
+ghost use Rattle.tb_types.specs.Forms.{content_of, held, is_ty, is_int, is_bool, is_unit, is_byte, is_thin, are_sizes, is_layout, is_form};
 ghost use Rattle.tb_types.specs.Table.{shape_at};
 ghost use Rattle.tb_types.specs.Kept.{table_of};
 
@@ -34,15 +34,15 @@ pub enum Form {
     /// Made around T.
     Of(Around),
     /// Made around what is made around T, the outer first.
-    OfOf(Around, Around),
+    Within(Around, Around),
     /// `()`.
     Unit,
     /// `bool`.
-    Truth,
+    Bool,
     /// An integer type.
     Int(IntKind),
     /// `*mut u8`.
-    Bytes,
+    BytePointer,
     /// A raw pointer to any type but a slice; `*mut` where true.
     Thin(bool),
     /// The type of layouts: struct 0, where that has two `usize` fields.
@@ -102,15 +102,15 @@ fn is_int(shapes: &[TyShape], kind: IntKind, ty: Ty) -> bool
 }
 
 /// Whether a type is `()`.
-fn is_nothing(shapes: &[TyShape], ty: Ty) -> bool
-    ensures { result ≡ is_nothing (shape_at (table_of shapes.now []) ty) }
+fn is_unit(shapes: &[TyShape], ty: Ty) -> bool
+    ensures { result ≡ is_unit (shape_at (table_of shapes.now []) ty) }
 {
     matches!(shapes.get(ty.0 as usize), Some(TyShape::Unit))
 }
 
 /// Whether a type is `bool`.
-fn is_truth(shapes: &[TyShape], ty: Ty) -> bool
-    ensures { result ≡ is_truth (shape_at (table_of shapes.now []) ty) }
+fn is_bool(shapes: &[TyShape], ty: Ty) -> bool
+    ensures { result ≡ is_bool (shape_at (table_of shapes.now []) ty) }
 {
     matches!(shapes.get(ty.0 as usize), Some(TyShape::Bool))
 }
@@ -170,11 +170,11 @@ pub fn is_form(shapes: &[TyShape], items: &[Item], form: Form, t: Ty, ty: Ty) ->
     match form {
         Form::T => ty == t,
         Form::Of(around) => is_ty(t, held(shapes, around, Some(ty))),
-        Form::OfOf(outer, inner) => is_ty(t, held(shapes, inner, held(shapes, outer, Some(ty)))),
-        Form::Unit => is_nothing(shapes, ty),
-        Form::Truth => is_truth(shapes, ty),
+        Form::Within(outer, inner) => is_ty(t, held(shapes, inner, held(shapes, outer, Some(ty)))),
+        Form::Unit => is_unit(shapes, ty),
+        Form::Bool => is_bool(shapes, ty),
         Form::Int(kind) => is_int(shapes, kind, ty),
-        Form::Bytes => is_byte(shapes, held(shapes, Around::Raw(true), Some(ty))),
+        Form::BytePointer => is_byte(shapes, held(shapes, Around::Raw(true), Some(ty))),
         Form::Thin(mutable) => is_thin(shapes, held(shapes, Around::Raw(mutable), Some(ty))),
         Form::Layout => is_layout(shapes, items, ty),
     }

@@ -39,17 +39,17 @@ const CONST_PTR: Form = Form::Of(Around::Raw(false));
 
 const MUT_PTR: Form = Form::Of(Around::Raw(true));
 
-const CELL_REF: Form = Form::OfOf(Around::Ref(false), Around::Cell);
+const CELL_REF: Form = Form::Within(Around::Ref(false), Around::Cell);
 
-const UNSAFE_CELL_REF: Form = Form::OfOf(Around::Ref(false), Around::UnsafeCell);
+const UNSAFE_CELL_REF: Form = Form::Within(Around::Ref(false), Around::UnsafeCell);
 
-const SLICE_REF: Form = Form::OfOf(Around::Ref(false), Around::Slice);
+const SLICE_REF: Form = Form::Within(Around::Ref(false), Around::Slice);
 
-const MUT_SLICE_REF: Form = Form::OfOf(Around::Ref(true), Around::Slice);
+const MUT_SLICE_REF: Form = Form::Within(Around::Ref(true), Around::Slice);
 
-const ELEMENTS_REF: Form = Form::OfOf(Around::Ref(false), Around::Elements);
+const ELEMENTS_REF: Form = Form::Within(Around::Ref(false), Around::Elements);
 
-const MUT_ELEMENTS_REF: Form = Form::OfOf(Around::Ref(true), Around::Elements);
+const MUT_ELEMENTS_REF: Form = Form::Within(Around::Ref(true), Around::Elements);
 
 const USIZE: Form = Form::Int(IntKind::Usize);
 
@@ -61,9 +61,9 @@ const BYTE: Form = Form::Int(IntKind::U8);
 
 const UNIT: Form = Form::Unit;
 
-const BOOL: Form = Form::Truth;
+const BOOL: Form = Form::Bool;
 
-const BYTES: Form = Form::Bytes;
+const BYTES: Form = Form::BytePointer;
 
 const LAYOUT: Form = Form::Layout;
 

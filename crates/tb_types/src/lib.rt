@@ -4,21 +4,21 @@
 
 mod builtin;
 mod copies;
+mod extent;
 mod facts;
 mod form;
 mod head;
 mod item;
-mod memory;
+mod known;
 mod name;
 mod parts;
+mod pieces;
 mod shape;
 mod tables;
 mod types;
 
 pub use builtin::Builtin;
-pub use facts::Facts;
 pub use item::{Field, Item};
-pub use memory::Memory;
 pub use name::Name;
 pub use parts::Parts;
 pub use shape::{IntKind, Ty, TyShape};

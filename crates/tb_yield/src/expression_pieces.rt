@@ -9,9 +9,9 @@ ghost use Rattle.tb_ast.specs.Types.{optional, type_pieces, turbofish_pieces, no
 ghost use Rattle.tb_ast.specs.Expressions.{unary_mark, borrow_kind, binary_mark, assign_mark, path_row, print_word, print_text, macro_front, expr_layer, else_pieces, expr_pieces, field_pieces, stmt_pieces, block_pieces, initializer_pieces};
 ghost use Rattle.tb_yield.specs.Stages.{word_front, expr_front, expr_middle, operands_inside, choices_inside, expr_inside, expr_back};
 
-use crate::memory::Memory;
 use crate::pieces::Pieces;
 use sqlite_items::Boxed;
+use std::alloc::AllocError;
 use tb_ast::{
     AssignOp, BinaryOp, Block, Borrow, Else, Expr, ExprPath, FieldValue, Ident, Initializer,
     IntLiteral, Mark, Path, PrintText, Stmt, TextLiteral, Turbofish, TypeExpr, TypeNote, UnaryOp,
@@ -77,7 +77,7 @@ fn assign_mark(operator: AssignOp) -> Punctuation
 // What stands around the expressions and blocks in an expression.
 impl Pieces {
     /// Puts down what stands before the first expression or block in an expression.
-    fn expr_front(&mut self, e: &Expr) -> Result<(), Memory>
+    fn expr_front(&mut self, e: &Expr) -> Result<(), AllocError>
         ensures { OnOk result (self.new.list.items ≡ self.old.list.items ++ expr_front (expr_layer e.now)) }
     {
         match e {
@@ -110,7 +110,7 @@ impl Pieces {
 
     /// Puts down what stands before the first expression or block in an expression that begins with a
     /// word.
-    fn word_front(&mut self, e: &Expr) -> Result<(), Memory>
+    fn word_front(&mut self, e: &Expr) -> Result<(), AllocError>
         ensures { OnOk result (self.new.list.items ≡ self.old.list.items ++ word_front (expr_layer e.now)) }
     {
         match e {
@@ -148,7 +148,7 @@ impl Pieces {
     }
 
     /// Puts down what stands between the first expression in an expression and the others.
-    fn expr_middle(&mut self, e: &Expr) -> Result<(), Memory>
+    fn expr_middle(&mut self, e: &Expr) -> Result<(), AllocError>
         ensures { OnOk result (self.new.list.items ≡ self.old.list.items ++ expr_middle (expr_layer e.now)) }
     {
         match e {
@@ -176,7 +176,7 @@ impl Pieces {
     }
 
     /// Puts down what stands behind the last expression or block in an expression.
-    fn expr_back(&mut self, e: &Expr) -> Result<(), Memory>
+    fn expr_back(&mut self, e: &Expr) -> Result<(), AllocError>
         ensures { OnOk result (self.new.list.items ≡ self.old.list.items ++ expr_back (expr_layer e.now)) }
     {
         match e {
@@ -203,35 +203,35 @@ impl Pieces {
     }
 
     /// Puts down a path in an expression.
-    fn expr_path(&mut self, path: &ExprPath) -> Result<(), Memory>
+    fn expr_path(&mut self, path: &ExprPath) -> Result<(), AllocError>
         ensures { OnOk result (self.new.list.items ≡ self.old.list.items ++ path_row path.now) }
     {
         self.path(&path.path)?;
         self.turbofish(&path.turbofish)
     }
 
-    fn struct_front(&mut self, path: &Path, opening: Span) -> Result<(), Memory>
+    fn struct_front(&mut self, path: &Path, opening: Span) -> Result<(), AllocError>
         ensures { OnOk result (self.new.list.items ≡ self.old.list.items ++ path_pieces path.now ++ punct punct_of.OpenBrace opening ∷ []) }
     {
         self.path(path)?;
         self.mark(Punctuation::OpenBrace, opening)
     }
 
-    fn call_front(&mut self, callee: &ExprPath, opening: Span) -> Result<(), Memory>
+    fn call_front(&mut self, callee: &ExprPath, opening: Span) -> Result<(), AllocError>
         ensures { OnOk result (self.new.list.items ≡ self.old.list.items ++ path_row callee.now ++ punct punct_of.OpenParen opening ∷ []) }
     {
         self.expr_path(callee)?;
         self.mark(Punctuation::OpenParen, opening)
     }
 
-    fn borrow_front(&mut self, and: Mark, kind: Borrow) -> Result<(), Memory>
+    fn borrow_front(&mut self, and: Mark, kind: Borrow) -> Result<(), AllocError>
         ensures { OnOk result (self.new.list.items ≡ self.old.list.items ++ mark punct_of.And and ∷ borrow_kind kind) }
     {
         self.glue(Punctuation::And, and)?;
         self.borrow_kind(kind)
     }
 
-    fn borrow_kind(&mut self, kind: Borrow) -> Result<(), Memory>
+    fn borrow_kind(&mut self, kind: Borrow) -> Result<(), AllocError>
         ensures { OnOk result (self.new.list.items ≡ self.old.list.items ++ borrow_kind kind) }
     {
         match kind {
@@ -255,7 +255,13 @@ impl Pieces {
     }
 
     /// Puts down the name of a macro, `!` and `(`.
-    fn macro_front(&mut self, name: &str, at: Span, bang: Span, opening: Span) -> Result<(), Memory>
+    fn macro_front(
+        &mut self,
+        name: &str,
+        at: Span,
+        bang: Span,
+        opening: Span,
+    ) -> Result<(), AllocError>
         ensures { OnOk result (self.new.list.items ≡ self.old.list.items ++ macro_front name.now at bang opening) }
     {
         self.word(name, at)?;
@@ -270,14 +276,14 @@ impl Pieces {
         bang: Span,
         opening: Span,
         text: &Option<PrintText>,
-    ) -> Result<(), Memory>
+    ) -> Result<(), AllocError>
         ensures { OnOk result (self.new.list.items ≡ self.old.list.items ++ macro_front (print_word newline) at bang opening ++ print_text text.now) }
     {
         self.macro_front(print_word(newline), at, bang, opening)?;
         self.print_text(text)
     }
 
-    fn print_text(&mut self, text: &Option<PrintText>) -> Result<(), Memory>
+    fn print_text(&mut self, text: &Option<PrintText>) -> Result<(), AllocError>
         ensures { OnOk result (self.new.list.items ≡ self.old.list.items ++ print_text text.now) }
     {
         let Some(text) = text else {
@@ -294,7 +300,7 @@ impl Pieces {
         opening: Span,
         text: &Option<TextLiteral>,
         closing: Span,
-    ) -> Result<(), Memory>
+    ) -> Result<(), AllocError>
         ensures { OnOk result (self.new.list.items ≡ self.old.list.items ++ macro_front (codes "panic") at bang opening ++ (text_pieces text.now ++ punct punct_of.CloseParen closing ∷ [])) }
     {
         self.macro_front("panic", at, bang, opening)?;
@@ -302,7 +308,7 @@ impl Pieces {
         self.mark(Punctuation::CloseParen, closing)
     }
 
-    fn assert_back(&mut self, comma: Option<Span>, closing: Span) -> Result<(), Memory>
+    fn assert_back(&mut self, comma: Option<Span>, closing: Span) -> Result<(), AllocError>
         ensures { OnOk result (self.new.list.items ≡ self.old.list.items ++ optional_mark punct_of.Comma comma ++ punct punct_of.CloseParen closing ∷ []) }
     {
         self.optional_mark(Punctuation::Comma, comma)?;
@@ -315,7 +321,7 @@ impl Pieces {
         name: &Ident,
         turbofish: &Option<Turbofish>,
         opening: Span,
-    ) -> Result<(), Memory>
+    ) -> Result<(), AllocError>
         ensures { OnOk result (self.new.list.items ≡ self.old.list.items ++ punct punct_of.Dot dot ∷ ident name.now ∷ (turbofish_pieces turbofish.now ++ punct punct_of.OpenParen opening ∷ [])) }
     {
         self.mark(Punctuation::Dot, dot)?;
@@ -324,21 +330,21 @@ impl Pieces {
         self.mark(Punctuation::OpenParen, opening)
     }
 
-    fn field_back(&mut self, dot: Span, name: &Ident) -> Result<(), Memory>
+    fn field_back(&mut self, dot: Span, name: &Ident) -> Result<(), AllocError>
         ensures { OnOk result (self.new.list.items ≡ self.old.list.items ++ punct punct_of.Dot dot ∷ ident name.now ∷ []) }
     {
         self.mark(Punctuation::Dot, dot)?;
         self.ident(name)
     }
 
-    fn tuple_field_back(&mut self, dot: Span, index: IntLiteral) -> Result<(), Memory>
+    fn tuple_field_back(&mut self, dot: Span, index: IntLiteral) -> Result<(), AllocError>
         ensures { OnOk result (self.new.list.items ≡ self.old.list.items ++ punct punct_of.Dot dot ∷ number index ∷ []) }
     {
         self.mark(Punctuation::Dot, dot)?;
         self.number(index)
     }
 
-    fn cast_back(&mut self, at: Span, ty: &TypeExpr) -> Result<(), Memory>
+    fn cast_back(&mut self, at: Span, ty: &TypeExpr) -> Result<(), AllocError>
         ensures { OnOk result (self.new.list.items ≡ self.old.list.items ++ keyword keyword_of.As at ∷ type_pieces ty.now) }
     {
         self.keyword(Keyword::As, at)?;
@@ -352,7 +358,7 @@ impl Pieces {
         mutable: Option<Span>,
         name: &Ident,
         ty: &Option<TypeNote>,
-    ) -> Result<(), Memory>
+    ) -> Result<(), AllocError>
         ensures { OnOk result (self.new.list.items ≡ self.old.list.items ++ keyword keyword_of.Let at ∷ (optional_keyword keyword_of.Mut mutable ++ (ident name.now ∷ note_pieces ty.now))) }
     {
         self.keyword(Keyword::Let, at)?;
@@ -366,7 +372,7 @@ impl Pieces {
 impl Pieces {
     /// Puts down an expression.
     #[cycle(expressions)]
-    pub fn expr(&mut self, e: &Expr) -> Result<(), Memory>
+    pub fn expr(&mut self, e: &Expr) -> Result<(), AllocError>
         ensures { OnOk result (self.new.list.items ≡ self.old.list.items ++ expr_pieces e.now) }
     {
         self.expr_front(e)?;
@@ -376,7 +382,7 @@ impl Pieces {
 
     /// Puts down the expressions and blocks in an expression, and what stands between them.
     #[cycle(expressions)]
-    fn expr_inside(&mut self, e: &Expr) -> Result<(), Memory>
+    fn expr_inside(&mut self, e: &Expr) -> Result<(), AllocError>
         ensures { OnOk result (self.new.list.items ≡ self.old.list.items ++ expr_inside (expr_layer e.now)) }
     {
         match e {
@@ -417,7 +423,7 @@ impl Pieces {
 
     /// Puts down what lies in a `while`, an `if` or a `return`, and the operands of an operator.
     #[cycle(expressions)]
-    fn choices_inside(&mut self, e: &Expr) -> Result<(), Memory>
+    fn choices_inside(&mut self, e: &Expr) -> Result<(), AllocError>
         ensures { OnOk result (self.new.list.items ≡ self.old.list.items ++ choices_inside (expr_layer e.now)) }
     {
         match e {
@@ -451,7 +457,7 @@ impl Pieces {
 
     /// Puts down the operands of an operator that stands between them.
     #[cycle(expressions)]
-    fn operands_inside(&mut self, e: &Expr) -> Result<(), Memory>
+    fn operands_inside(&mut self, e: &Expr) -> Result<(), AllocError>
         ensures { OnOk result (self.new.list.items ≡ self.old.list.items ++ operands_inside (expr_layer e.now)) }
     {
         match e {
@@ -491,7 +497,7 @@ impl Pieces {
 
     /// Puts down expressions, with the commas behind them.
     #[cycle(expressions)]
-    fn exprs(&mut self, list: &[Expr], commas: &[Span]) -> Result<(), Memory>
+    fn exprs(&mut self, list: &[Expr], commas: &[Span]) -> Result<(), AllocError>
         ensures { OnOk result (self.new.list.items ≡ self.old.list.items ++ separated punct_of.Comma (map expr_pieces list.now) commas.now) }
     {
         for (at, e) in list.iter().enumerate() {
@@ -503,7 +509,7 @@ impl Pieces {
 
     /// Puts down an expression that may be left out.
     #[cycle(expressions)]
-    fn optional_expr(&mut self, e: &Option<Boxed<Expr>>) -> Result<(), Memory>
+    fn optional_expr(&mut self, e: &Option<Boxed<Expr>>) -> Result<(), AllocError>
         ensures { OnOk result (self.new.list.items ≡ self.old.list.items ++ optional (option_map expr_pieces e.now)) }
     {
         match e {
@@ -514,7 +520,7 @@ impl Pieces {
 
     /// Puts down the fields of a struct literal, with the commas behind them.
     #[cycle(expressions)]
-    fn fields(&mut self, fields: &[FieldValue], commas: &[Span]) -> Result<(), Memory>
+    fn fields(&mut self, fields: &[FieldValue], commas: &[Span]) -> Result<(), AllocError>
         ensures { OnOk result (self.new.list.items ≡ self.old.list.items ++ separated punct_of.Comma (map field_pieces fields.now) commas.now) }
     {
         for (at, field) in fields.iter().enumerate() {
@@ -526,7 +532,7 @@ impl Pieces {
 
     /// Puts down a field of a struct literal.
     #[cycle(expressions)]
-    fn field(&mut self, field: &FieldValue) -> Result<(), Memory>
+    fn field(&mut self, field: &FieldValue) -> Result<(), AllocError>
         ensures { OnOk result (self.new.list.items ≡ self.old.list.items ++ field_pieces field.now) }
     {
         match field {
@@ -541,7 +547,7 @@ impl Pieces {
 
     /// Puts down what stands behind the block of an `if`, if it is there.
     #[cycle(expressions)]
-    fn otherwise(&mut self, otherwise: &Option<Else>) -> Result<(), Memory>
+    fn otherwise(&mut self, otherwise: &Option<Else>) -> Result<(), AllocError>
         ensures { OnOk result (self.new.list.items ≡ self.old.list.items ++ optional (option_map else_pieces otherwise.now)) }
     {
         match otherwise {
@@ -564,7 +570,7 @@ impl Pieces {
 
     /// Puts down a block.
     #[cycle(expressions)]
-    pub fn block(&mut self, block: &Block) -> Result<(), Memory>
+    pub fn block(&mut self, block: &Block) -> Result<(), AllocError>
         ensures { OnOk result (self.new.list.items ≡ self.old.list.items ++ block_pieces block.now) }
     {
         self.mark(Punctuation::OpenBrace, block.opening)?;
@@ -575,7 +581,7 @@ impl Pieces {
 
     /// Puts down statements.
     #[cycle(expressions)]
-    fn statements(&mut self, statements: &[Stmt]) -> Result<(), Memory>
+    fn statements(&mut self, statements: &[Stmt]) -> Result<(), AllocError>
         ensures { OnOk result (self.new.list.items ≡ self.old.list.items ++ in_order (map stmt_pieces statements.now)) }
     {
         for statement in statements {
@@ -586,7 +592,7 @@ impl Pieces {
 
     /// Puts down a statement.
     #[cycle(expressions)]
-    fn statement(&mut self, statement: &Stmt) -> Result<(), Memory>
+    fn statement(&mut self, statement: &Stmt) -> Result<(), AllocError>
         ensures { OnOk result (self.new.list.items ≡ self.old.list.items ++ stmt_pieces statement.now) }
     {
         match statement {
@@ -618,7 +624,7 @@ impl Pieces {
 
     /// Puts down the value of a `let`, if it has one.
     #[cycle(expressions)]
-    fn initializer(&mut self, initializer: &Option<Initializer>) -> Result<(), Memory>
+    fn initializer(&mut self, initializer: &Option<Initializer>) -> Result<(), AllocError>
         ensures { OnOk result (self.new.list.items ≡ self.old.list.items ++ optional (option_map initializer_pieces initializer.now)) }
     {
         match initializer {

@@ -5,8 +5,8 @@ ghost use Rattle.tb_lex.specs.declared.punctuation.Punctuation.TheVariants.{Comm
 ghost use Rattle.tb_ast.specs.Pieces.{punct, separated, in_order};
 ghost use Rattle.tb_ast.specs.Files.{word_list, inner_row, repr_row, meta_row, attribute_row, group_row, use_row, lifetime_row, lifetimes_row, member_row, struct_row, bounds_row, generic_row, generics_row, parameter_row, result_row, optional_result, name_row, parameters_row, function_row, foreign_row, extern_row, kind_row, item_row, tree_pieces};
 
-use crate::memory::Memory;
 use crate::pieces::Pieces;
+use std::alloc::AllocError;
 use tb_ast::{
     Attribute, Bounds, ExternBlock, Field, ForeignFunction, Function, GenericParameter, Generics,
     InnerAttribute, Item, ItemKind, Lifetime, Lifetimes, Meta, Parameter, Repr, ResultType, Struct,
@@ -18,7 +18,7 @@ use tb_perm::Span;
 // Attributes.
 impl Pieces {
     /// Puts down a word, and words in parentheses.
-    fn word_list(&mut self, name: &str, list: &WordList) -> Result<(), Memory>
+    fn word_list(&mut self, name: &str, list: &WordList) -> Result<(), AllocError>
         ensures { OnOk result (self.new.list.items ≡ self.old.list.items ++ word_list name.now list.now) }
     {
         self.word(name, list.word)?;
@@ -32,7 +32,7 @@ impl Pieces {
     }
 
     /// Puts down `#`, `!` and `[`.
-    fn inner_front(&mut self, pound: Span, bang: Span, opening: Span) -> Result<(), Memory>
+    fn inner_front(&mut self, pound: Span, bang: Span, opening: Span) -> Result<(), AllocError>
         ensures { OnOk result (self.new.list.items ≡ self.old.list.items ++ punct Pound pound ∷ punct Not bang ∷ punct OpenBracket opening ∷ []) }
     {
         self.mark(Punctuation::Pound, pound)?;
@@ -40,7 +40,7 @@ impl Pieces {
         self.mark(Punctuation::OpenBracket, opening)
     }
 
-    fn inner_attribute(&mut self, inner: &InnerAttribute) -> Result<(), Memory>
+    fn inner_attribute(&mut self, inner: &InnerAttribute) -> Result<(), AllocError>
         ensures { OnOk result (self.new.list.items ≡ self.old.list.items ++ inner_row inner.now) }
     {
         self.inner_front(inner.pound, inner.bang, inner.opening)?;
@@ -48,7 +48,7 @@ impl Pieces {
         self.mark(Punctuation::CloseBracket, inner.closing)
     }
 
-    fn repr(&mut self, repr: &Repr) -> Result<(), Memory>
+    fn repr(&mut self, repr: &Repr) -> Result<(), AllocError>
         ensures { OnOk result (self.new.list.items ≡ self.old.list.items ++ repr_row repr.now) }
     {
         self.word("repr", repr.word)?;
@@ -57,7 +57,7 @@ impl Pieces {
         self.mark(Punctuation::CloseParen, repr.closing)
     }
 
-    fn meta(&mut self, meta: &Meta) -> Result<(), Memory>
+    fn meta(&mut self, meta: &Meta) -> Result<(), AllocError>
         ensures { OnOk result (self.new.list.items ≡ self.old.list.items ++ meta_row meta.now) }
     {
         match meta {
@@ -67,7 +67,7 @@ impl Pieces {
         }
     }
 
-    fn attribute(&mut self, attribute: &Attribute) -> Result<(), Memory>
+    fn attribute(&mut self, attribute: &Attribute) -> Result<(), AllocError>
         ensures { OnOk result (self.new.list.items ≡ self.old.list.items ++ attribute_row attribute.now) }
     {
         self.mark(Punctuation::Pound, attribute.pound)?;
@@ -76,7 +76,7 @@ impl Pieces {
         self.mark(Punctuation::CloseBracket, attribute.closing)
     }
 
-    fn attributes(&mut self, attributes: &[Attribute]) -> Result<(), Memory>
+    fn attributes(&mut self, attributes: &[Attribute]) -> Result<(), AllocError>
         ensures { OnOk result (self.new.list.items ≡ self.old.list.items ++ in_order (map attribute_row attributes.now)) }
     {
         for attribute in attributes {
@@ -85,7 +85,7 @@ impl Pieces {
         Ok(())
     }
 
-    fn inner_attributes(&mut self, attributes: &[InnerAttribute]) -> Result<(), Memory>
+    fn inner_attributes(&mut self, attributes: &[InnerAttribute]) -> Result<(), AllocError>
         ensures { OnOk result (self.new.list.items ≡ self.old.list.items ++ in_order (map inner_row attributes.now)) }
     {
         for attribute in attributes {
@@ -97,7 +97,7 @@ impl Pieces {
 
 // Uses and structs.
 impl Pieces {
-    fn use_group(&mut self, group: &Option<UseGroup>) -> Result<(), Memory>
+    fn use_group(&mut self, group: &Option<UseGroup>) -> Result<(), AllocError>
         ensures { OnOk result (self.new.list.items ≡ self.old.list.items ++ group_row group.now) }
     {
         let Some(group) = group else {
@@ -113,7 +113,7 @@ impl Pieces {
         self.mark(Punctuation::CloseBrace, group.closing)
     }
 
-    fn use_item(&mut self, item: &Use) -> Result<(), Memory>
+    fn use_item(&mut self, item: &Use) -> Result<(), AllocError>
         ensures { OnOk result (self.new.list.items ≡ self.old.list.items ++ use_row item.now) }
     {
         self.keyword(Keyword::Use, item.use_keyword)?;
@@ -122,7 +122,11 @@ impl Pieces {
         self.mark(Punctuation::Semicolon, item.semicolon)
     }
 
-    fn listed_lifetimes(&mut self, lifetimes: &[Lifetime], commas: &[Span]) -> Result<(), Memory>
+    fn listed_lifetimes(
+        &mut self,
+        lifetimes: &[Lifetime],
+        commas: &[Span],
+    ) -> Result<(), AllocError>
         ensures { OnOk result (self.new.list.items ≡ self.old.list.items ++ separated Comma (map lifetime_row lifetimes.now) commas.now) }
     {
         for (at, lifetime) in lifetimes.iter().enumerate() {
@@ -132,7 +136,7 @@ impl Pieces {
         Ok(())
     }
 
-    fn lifetimes(&mut self, lifetimes: &Option<Lifetimes>) -> Result<(), Memory>
+    fn lifetimes(&mut self, lifetimes: &Option<Lifetimes>) -> Result<(), AllocError>
         ensures { OnOk result (self.new.list.items ≡ self.old.list.items ++ lifetimes_row lifetimes.now) }
     {
         let Some(lifetimes) = lifetimes else {
@@ -143,7 +147,7 @@ impl Pieces {
         self.mark(Punctuation::Gt, lifetimes.closing)
     }
 
-    fn member(&mut self, field: &Field) -> Result<(), Memory>
+    fn member(&mut self, field: &Field) -> Result<(), AllocError>
         ensures { OnOk result (self.new.list.items ≡ self.old.list.items ++ member_row field.now) }
     {
         self.ident(&field.name)?;
@@ -151,7 +155,7 @@ impl Pieces {
         self.ty(&field.ty)
     }
 
-    fn members(&mut self, fields: &[Field], commas: &[Span]) -> Result<(), Memory>
+    fn members(&mut self, fields: &[Field], commas: &[Span]) -> Result<(), AllocError>
         ensures { OnOk result (self.new.list.items ≡ self.old.list.items ++ separated Comma (map member_row fields.now) commas.now) }
     {
         for (at, field) in fields.iter().enumerate() {
@@ -161,7 +165,7 @@ impl Pieces {
         Ok(())
     }
 
-    fn struct_item(&mut self, item: &Struct) -> Result<(), Memory>
+    fn struct_item(&mut self, item: &Struct) -> Result<(), AllocError>
         ensures { OnOk result (self.new.list.items ≡ self.old.list.items ++ struct_row item.now) }
     {
         self.keyword(Keyword::Struct, item.struct_keyword)?;
@@ -175,7 +179,7 @@ impl Pieces {
 
 // Functions.
 impl Pieces {
-    fn bounds(&mut self, bounds: &Option<Bounds>) -> Result<(), Memory>
+    fn bounds(&mut self, bounds: &Option<Bounds>) -> Result<(), AllocError>
         ensures { OnOk result (self.new.list.items ≡ self.old.list.items ++ bounds_row bounds.now) }
     {
         let Some(bounds) = bounds else {
@@ -189,7 +193,7 @@ impl Pieces {
         )
     }
 
-    fn generic(&mut self, parameter: &GenericParameter) -> Result<(), Memory>
+    fn generic(&mut self, parameter: &GenericParameter) -> Result<(), AllocError>
         ensures { OnOk result (self.new.list.items ≡ self.old.list.items ++ generic_row parameter.now) }
     {
         match parameter {
@@ -205,7 +209,7 @@ impl Pieces {
         &mut self,
         parameters: &[GenericParameter],
         commas: &[Span],
-    ) -> Result<(), Memory>
+    ) -> Result<(), AllocError>
         ensures { OnOk result (self.new.list.items ≡ self.old.list.items ++ separated Comma (map generic_row parameters.now) commas.now) }
     {
         for (at, parameter) in parameters.iter().enumerate() {
@@ -215,7 +219,7 @@ impl Pieces {
         Ok(())
     }
 
-    fn generics(&mut self, generics: &Option<Generics>) -> Result<(), Memory>
+    fn generics(&mut self, generics: &Option<Generics>) -> Result<(), AllocError>
         ensures { OnOk result (self.new.list.items ≡ self.old.list.items ++ generics_row generics.now) }
     {
         let Some(generics) = generics else {
@@ -226,7 +230,7 @@ impl Pieces {
         self.mark(Punctuation::Gt, generics.closing)
     }
 
-    fn parameter(&mut self, parameter: &Parameter) -> Result<(), Memory>
+    fn parameter(&mut self, parameter: &Parameter) -> Result<(), AllocError>
         ensures { OnOk result (self.new.list.items ≡ self.old.list.items ++ parameter_row parameter.now) }
     {
         self.optional_keyword(Keyword::Mut, parameter.mut_keyword)?;
@@ -235,7 +239,11 @@ impl Pieces {
         self.ty(&parameter.ty)
     }
 
-    fn listed_parameters(&mut self, parameters: &[Parameter], commas: &[Span]) -> Result<(), Memory>
+    fn listed_parameters(
+        &mut self,
+        parameters: &[Parameter],
+        commas: &[Span],
+    ) -> Result<(), AllocError>
         ensures { OnOk result (self.new.list.items ≡ self.old.list.items ++ separated Comma (map parameter_row parameters.now) commas.now) }
     {
         for (at, parameter) in parameters.iter().enumerate() {
@@ -245,14 +253,14 @@ impl Pieces {
         Ok(())
     }
 
-    fn result_type(&mut self, output: &ResultType) -> Result<(), Memory>
+    fn result_type(&mut self, output: &ResultType) -> Result<(), AllocError>
         ensures { OnOk result (self.new.list.items ≡ self.old.list.items ++ result_row output.now) }
     {
         self.mark(Punctuation::Arrow, output.arrow)?;
         self.ty(&output.ty)
     }
 
-    fn optional_result(&mut self, output: &Option<ResultType>) -> Result<(), Memory>
+    fn optional_result(&mut self, output: &Option<ResultType>) -> Result<(), AllocError>
         ensures { OnOk result (self.new.list.items ≡ self.old.list.items ++ optional_result output.now) }
     {
         match output {
@@ -262,7 +270,7 @@ impl Pieces {
     }
 
     /// Puts down a function up to its parameters.
-    fn function_name(&mut self, function: &Function) -> Result<(), Memory>
+    fn function_name(&mut self, function: &Function) -> Result<(), AllocError>
         ensures { OnOk result (self.new.list.items ≡ self.old.list.items ++ name_row function.now) }
     {
         self.optional_keyword(Keyword::Unsafe, function.unsafe_keyword)?;
@@ -272,7 +280,7 @@ impl Pieces {
     }
 
     /// Puts down the parameters of a function.
-    fn parameters(&mut self, function: &Function) -> Result<(), Memory>
+    fn parameters(&mut self, function: &Function) -> Result<(), AllocError>
         ensures { OnOk result (self.new.list.items ≡ self.old.list.items ++ parameters_row function.now) }
     {
         self.mark(Punctuation::OpenParen, function.opening)?;
@@ -280,7 +288,7 @@ impl Pieces {
         self.mark(Punctuation::CloseParen, function.closing)
     }
 
-    fn function(&mut self, function: &Function) -> Result<(), Memory>
+    fn function(&mut self, function: &Function) -> Result<(), AllocError>
         ensures { OnOk result (self.new.list.items ≡ self.old.list.items ++ function_row function.now) }
     {
         self.function_name(function)?;
@@ -289,7 +297,7 @@ impl Pieces {
         self.block(&function.body)
     }
 
-    fn foreign_function(&mut self, function: &ForeignFunction) -> Result<(), Memory>
+    fn foreign_function(&mut self, function: &ForeignFunction) -> Result<(), AllocError>
         ensures { OnOk result (self.new.list.items ≡ self.old.list.items ++ foreign_row function.now) }
     {
         self.keyword(Keyword::Fn, function.fn_keyword)?;
@@ -299,7 +307,7 @@ impl Pieces {
         self.mark(Punctuation::Semicolon, function.semicolon)
     }
 
-    fn foreign_functions(&mut self, functions: &[ForeignFunction]) -> Result<(), Memory>
+    fn foreign_functions(&mut self, functions: &[ForeignFunction]) -> Result<(), AllocError>
         ensures { OnOk result (self.new.list.items ≡ self.old.list.items ++ in_order (map foreign_row functions.now)) }
     {
         for function in functions {
@@ -308,7 +316,7 @@ impl Pieces {
         Ok(())
     }
 
-    fn extern_block(&mut self, block: &ExternBlock) -> Result<(), Memory>
+    fn extern_block(&mut self, block: &ExternBlock) -> Result<(), AllocError>
         ensures { OnOk result (self.new.list.items ≡ self.old.list.items ++ extern_row block.now) }
     {
         self.optional_keyword(Keyword::Unsafe, block.unsafe_keyword)?;
@@ -322,7 +330,7 @@ impl Pieces {
 
 // Whole files.
 impl Pieces {
-    fn item_kind(&mut self, kind: &ItemKind) -> Result<(), Memory>
+    fn item_kind(&mut self, kind: &ItemKind) -> Result<(), AllocError>
         ensures { OnOk result (self.new.list.items ≡ self.old.list.items ++ kind_row kind.now) }
     {
         match kind {
@@ -333,14 +341,14 @@ impl Pieces {
         }
     }
 
-    fn item(&mut self, item: &Item) -> Result<(), Memory>
+    fn item(&mut self, item: &Item) -> Result<(), AllocError>
         ensures { OnOk result (self.new.list.items ≡ self.old.list.items ++ item_row item.now) }
     {
         self.attributes(item.attributes.as_slice())?;
         self.item_kind(&item.kind)
     }
 
-    fn items(&mut self, items: &[Item]) -> Result<(), Memory>
+    fn items(&mut self, items: &[Item]) -> Result<(), AllocError>
         ensures { OnOk result (self.new.list.items ≡ self.old.list.items ++ in_order (map item_row items.now)) }
     {
         for item in items {
@@ -350,7 +358,7 @@ impl Pieces {
     }
 
     /// Puts down a whole file.
-    pub fn tree(&mut self, tree: &Tree) -> Result<(), Memory>
+    pub fn tree(&mut self, tree: &Tree) -> Result<(), AllocError>
         ensures { OnOk result (self.new.list.items ≡ self.old.list.items ++ tree_pieces tree.now) }
     {
         self.inner_attributes(tree.attributes.as_slice())?;

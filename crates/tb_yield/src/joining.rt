@@ -5,10 +5,9 @@ ghost use Rattle.std.specs.List.{AllByRecursion};
 ghost use Rattle.tb_ast.specs.declared.piece.Piece.{Piece};
 ghost use Rattle.tb_ast.specs.Joined.{with_and, with_gt, with_mark, with_kind, joint, over, put_before, joined, token_of, tokens_of, IsApart};
 
-use crate::memory::Memory;
 use crate::pieces::Pieces;
 use sqlite_items::Items;
-use std::alloc::Global;
+use std::alloc::{AllocError, Global};
 use tb_ast::{Piece, Tree};
 use tb_lex::{Punctuation, Token, TokenKind, Tokens};
 use tb_perm::Span;
@@ -71,7 +70,7 @@ fn joint(first: &Piece, second: &Piece) -> Option<Punctuation>
 }
 
 /// Puts a piece before others, which are kept from the last to the first.
-fn put_before(stack: &mut Vec<Piece>, piece: Piece) -> Result<(), Memory>
+fn put_before(stack: &mut Vec<Piece>, piece: Piece) -> Result<(), AllocError>
     ensures { OnOk result (reverse stack.new.items ≡ put_before piece (reverse stack.old.items)) }
 {
     let Some(next) = stack.pop() else {
@@ -103,7 +102,7 @@ fn over(first: &Piece, second: &Piece, punctuation: Punctuation) -> Piece
 }
 
 /// The pieces joined, from the last to the first.
-fn joined(alloc: Global, pieces: Vec<Piece>) -> Result<Vec<Piece>, Memory>
+fn joined(alloc: Global, pieces: Vec<Piece>) -> Result<Vec<Piece>, AllocError>
     ensures { IfOk result (λ stack. reverse stack.items ≡ joined pieces.items) }
 {
     let mut pieces = pieces;
@@ -116,7 +115,7 @@ fn joined(alloc: Global, pieces: Vec<Piece>) -> Result<Vec<Piece>, Memory>
 
 /// The tokens of pieces that are kept from the last to the first.
 #[tactic(auto, using(crate::proofs::Joins::token_step))]
-fn tokens_in(alloc: Global, stack: Vec<Piece>) -> Result<Vec<Token>, Memory>
+fn tokens_in(alloc: Global, stack: Vec<Piece>) -> Result<Vec<Token>, AllocError>
     ensures { IfOk result (λ tokens. tokens.items ≡ map token_of (reverse stack.items)) }
 {
     let mut stack = stack;
@@ -133,7 +132,7 @@ fn tokens_in(alloc: Global, stack: Vec<Piece>) -> Result<Vec<Token>, Memory>
 /// # Errors
 ///
 /// The allocator had no room.
-pub fn yield_of(alloc: Global, tree: &Tree) -> Result<Tokens, Memory>
+pub fn yield_of(alloc: Global, tree: &Tree) -> Result<Tokens, AllocError>
     ensures tokens { IfOk result (λ tokens. tokens ≡ tokens_of tree.now) }
 {
     let mut pieces = Pieces::new(alloc);

@@ -7,9 +7,7 @@
 mod expression_pieces;
 mod item_pieces;
 mod joining;
-mod memory;
 mod pieces;
 mod written_pieces;
 
 pub use joining::{law_apart, yield_of};
-pub use memory::Memory;

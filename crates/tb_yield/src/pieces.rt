@@ -4,9 +4,8 @@ ghost use Rattle.std.specs.Prelude.{◌≡◌, ◌++◌, ◌∷◌, [], slice_ge
 ghost use Rattle.tb_ast.specs.Pieces.{piece, punct, mark, keyword, word, ident, lifetime, path_pieces, optional_mark, optional_keyword, named, number, text_piece, text_pieces, literal};
 ghost use Rattle.tb_lex.specs.declared.token.TokenKind.TheVariants as kind;
 
-use crate::memory::Memory;
 use sqlite_items::Items;
-use std::alloc::Global;
+use std::alloc::{AllocError, Global};
 use tb_ast::{Ident, IntLiteral, Lifetime, Literal, Mark, Path, Piece, TextLiteral};
 use tb_lex::{Integer, Keyword, Name, Punctuation, Text, TokenKind};
 use tb_perm::Span;
@@ -29,7 +28,7 @@ impl Pieces {
     }
 
     /// Puts down a token.
-    pub fn token(&mut self, kind: TokenKind, span: Span) -> Result<(), Memory>
+    pub fn token(&mut self, kind: TokenKind, span: Span) -> Result<(), AllocError>
         ensures { OnOk result (self.new.list.items ≡ self.old.list.items ++ piece kind span ∷ []) }
     {
         self.list.push(Piece {
@@ -40,14 +39,14 @@ impl Pieces {
         Ok(())
     }
 
-    pub fn mark(&mut self, punctuation: Punctuation, span: Span) -> Result<(), Memory>
+    pub fn mark(&mut self, punctuation: Punctuation, span: Span) -> Result<(), AllocError>
         ensures { OnOk result (self.new.list.items ≡ self.old.list.items ++ punct punctuation span ∷ []) }
     {
         self.token(TokenKind::Punctuation(punctuation), span)
     }
 
     /// Puts down a mark that may be glued.
-    pub fn glue(&mut self, punctuation: Punctuation, at: Mark) -> Result<(), Memory>
+    pub fn glue(&mut self, punctuation: Punctuation, at: Mark) -> Result<(), AllocError>
         ensures { OnOk result (self.new.list.items ≡ self.old.list.items ++ mark punctuation at ∷ []) }
     {
         self.list.push(Piece {
@@ -58,48 +57,48 @@ impl Pieces {
         Ok(())
     }
 
-    pub fn keyword(&mut self, word: Keyword, span: Span) -> Result<(), Memory>
+    pub fn keyword(&mut self, word: Keyword, span: Span) -> Result<(), AllocError>
         ensures { OnOk result (self.new.list.items ≡ self.old.list.items ++ keyword word span ∷ []) }
     {
         self.token(TokenKind::Keyword(word), span)
     }
 
     /// Puts down an identifier that the grammar reads as a word.
-    pub fn word(&mut self, text: &str, span: Span) -> Result<(), Memory>
+    pub fn word(&mut self, text: &str, span: Span) -> Result<(), AllocError>
         ensures { OnOk result (self.new.list.items ≡ self.old.list.items ++ word text.now span ∷ []) }
     {
         let bytes = Items::from_slice(self.alloc, text.as_bytes())?;
         self.token(TokenKind::Name(Name { bytes }), span)
     }
 
-    pub fn ident(&mut self, name: &Ident) -> Result<(), Memory>
+    pub fn ident(&mut self, name: &Ident) -> Result<(), AllocError>
         ensures { OnOk result (self.new.list.items ≡ self.old.list.items ++ ident name.now ∷ []) }
     {
         let bytes = Items::from_slice(self.alloc, name.name.bytes.as_slice())?;
         self.token(TokenKind::Name(Name { bytes }), name.span)
     }
 
-    pub fn lifetime(&mut self, name: &Lifetime) -> Result<(), Memory>
+    pub fn lifetime(&mut self, name: &Lifetime) -> Result<(), AllocError>
         ensures { OnOk result (self.new.list.items ≡ self.old.list.items ++ lifetime name.now ∷ []) }
     {
         let bytes = Items::from_slice(self.alloc, name.name.bytes.as_slice())?;
         self.token(TokenKind::Lifetime(Name { bytes }), name.span)
     }
 
-    pub fn text(&mut self, text: &TextLiteral) -> Result<(), Memory>
+    pub fn text(&mut self, text: &TextLiteral) -> Result<(), AllocError>
         ensures { OnOk result (self.new.list.items ≡ self.old.list.items ++ text_piece text.now ∷ []) }
     {
         let source = Items::from_slice(self.alloc, text.text.source.as_slice())?;
         self.token(TokenKind::Text(Text { source }), text.span)
     }
 
-    pub fn number(&mut self, literal: IntLiteral) -> Result<(), Memory>
+    pub fn number(&mut self, literal: IntLiteral) -> Result<(), AllocError>
         ensures { OnOk result (self.new.list.items ≡ self.old.list.items ++ number literal ∷ []) }
     {
         self.token(TokenKind::Integer(literal.integer), literal.span)
     }
 
-    pub fn optional_text(&mut self, text: &Option<TextLiteral>) -> Result<(), Memory>
+    pub fn optional_text(&mut self, text: &Option<TextLiteral>) -> Result<(), AllocError>
         ensures { OnOk result (self.new.list.items ≡ self.old.list.items ++ text_pieces text.now) }
     {
         match text {
@@ -108,7 +107,7 @@ impl Pieces {
         }
     }
 
-    pub fn literal(&mut self, value: Literal) -> Result<(), Memory>
+    pub fn literal(&mut self, value: Literal) -> Result<(), AllocError>
         ensures { OnOk result (self.new.list.items ≡ self.old.list.items ++ literal value ∷ []) }
     {
         match value {
@@ -129,7 +128,7 @@ impl Pieces {
     }
 
     /// Puts down a keyword that may be left out.
-    pub fn optional_keyword(&mut self, word: Keyword, span: Option<Span>) -> Result<(), Memory>
+    pub fn optional_keyword(&mut self, word: Keyword, span: Option<Span>) -> Result<(), AllocError>
         ensures { OnOk result (self.new.list.items ≡ self.old.list.items ++ optional_keyword word span) }
     {
         match span {
@@ -143,7 +142,7 @@ impl Pieces {
         &mut self,
         punctuation: Punctuation,
         span: Option<Span>,
-    ) -> Result<(), Memory>
+    ) -> Result<(), AllocError>
         ensures { OnOk result (self.new.list.items ≡ self.old.list.items ++ optional_mark punctuation span) }
     {
         match span {
@@ -158,7 +157,7 @@ impl Pieces {
         punctuation: Punctuation,
         spans: &[Span],
         at: usize,
-    ) -> Result<(), Memory>
+    ) -> Result<(), AllocError>
         ensures { OnOk result (self.new.list.items ≡ self.old.list.items ++ optional_mark punctuation (slice_get spans.now at)) }
     {
         let span = span_at(spans, at);
@@ -171,7 +170,7 @@ impl Pieces {
         names: &[Ident],
         punctuation: Punctuation,
         marks: &[Span],
-    ) -> Result<(), Memory>
+    ) -> Result<(), AllocError>
         ensures { OnOk result (self.new.list.items ≡ self.old.list.items ++ named punctuation names.now marks.now) }
     {
         for (at, name) in names.iter().enumerate() {
@@ -181,7 +180,7 @@ impl Pieces {
         Ok(())
     }
 
-    pub fn path(&mut self, path: &Path) -> Result<(), Memory>
+    pub fn path(&mut self, path: &Path) -> Result<(), AllocError>
         ensures { OnOk result (self.new.list.items ≡ self.old.list.items ++ path_pieces path.now) }
     {
         self.idents(

@@ -7,8 +7,8 @@ ghost use Rattle.tb_lex.specs.declared.punctuation.Punctuation.TheVariants.{Open
 ghost use Rattle.tb_ast.specs.Pieces.{punct, mark, number, optional_keyword, separated};
 ghost use Rattle.tb_ast.specs.Types.{optional, optional_lifetime, pointer_keyword, type_layer, type_front, type_inside, type_back, type_pieces, argument_pieces, arguments_pieces, turbofish_pieces, note_pieces};
 
-use crate::memory::Memory;
 use crate::pieces::Pieces;
+use std::alloc::AllocError;
 use tb_ast::{
     IntLiteral, Lifetime, Mark, PointerKind, Turbofish, TypeArgument, TypeArguments, TypeExpr,
     TypeNote,
@@ -19,7 +19,7 @@ use tb_perm::Span;
 impl Pieces {
     /// Puts down a type.
     #[cycle(types)]
-    pub fn ty(&mut self, ty: &TypeExpr) -> Result<(), Memory>
+    pub fn ty(&mut self, ty: &TypeExpr) -> Result<(), AllocError>
         ensures { OnOk result (self.new.list.items ≡ self.old.list.items ++ type_pieces ty.now) }
     {
         self.type_front(ty)?;
@@ -28,7 +28,7 @@ impl Pieces {
     }
 
     /// Puts down what stands before the types that lie in a type.
-    fn type_front(&mut self, ty: &TypeExpr) -> Result<(), Memory>
+    fn type_front(&mut self, ty: &TypeExpr) -> Result<(), AllocError>
         ensures { OnOk result (self.new.list.items ≡ self.old.list.items ++ type_front (type_layer ty.now)) }
     {
         match ty {
@@ -53,7 +53,7 @@ impl Pieces {
 
     /// Puts down the types that lie in a type, and what stands between them.
     #[cycle(types)]
-    fn type_inside(&mut self, ty: &TypeExpr) -> Result<(), Memory>
+    fn type_inside(&mut self, ty: &TypeExpr) -> Result<(), AllocError>
         ensures { OnOk result (self.new.list.items ≡ self.old.list.items ++ type_inside (type_layer ty.now)) }
     {
         match ty {
@@ -71,7 +71,7 @@ impl Pieces {
     }
 
     /// Puts down what stands behind the types that lie in a type.
-    fn type_back(&mut self, ty: &TypeExpr) -> Result<(), Memory>
+    fn type_back(&mut self, ty: &TypeExpr) -> Result<(), AllocError>
         ensures { OnOk result (self.new.list.items ≡ self.old.list.items ++ type_back (type_layer ty.now)) }
     {
         match ty {
@@ -91,7 +91,7 @@ impl Pieces {
     }
 
     /// Puts down `(` and `)`.
-    pub fn unit(&mut self, opening: Span, closing: Span) -> Result<(), Memory>
+    pub fn unit(&mut self, opening: Span, closing: Span) -> Result<(), AllocError>
         ensures { OnOk result (self.new.list.items ≡ self.old.list.items ++ punct OpenParen opening ∷ punct CloseParen closing ∷ []) }
     {
         self.mark(Punctuation::OpenParen, opening)?;
@@ -104,7 +104,7 @@ impl Pieces {
         semicolon: Span,
         length: IntLiteral,
         closing: Span,
-    ) -> Result<(), Memory>
+    ) -> Result<(), AllocError>
         ensures { OnOk result (self.new.list.items ≡ self.old.list.items ++ punct Semicolon semicolon ∷ number length ∷ punct CloseBracket closing ∷ []) }
     {
         self.mark(Punctuation::Semicolon, semicolon)?;
@@ -113,7 +113,7 @@ impl Pieces {
     }
 
     /// Puts down a lifetime that may be left out.
-    fn optional_lifetime(&mut self, name: &Option<Lifetime>) -> Result<(), Memory>
+    fn optional_lifetime(&mut self, name: &Option<Lifetime>) -> Result<(), AllocError>
         ensures { OnOk result (self.new.list.items ≡ self.old.list.items ++ optional_lifetime name.now) }
     {
         match name {
@@ -128,7 +128,7 @@ impl Pieces {
         and: Mark,
         name: &Option<Lifetime>,
         mutable: Option<Span>,
-    ) -> Result<(), Memory>
+    ) -> Result<(), AllocError>
         ensures { OnOk result (self.new.list.items ≡ self.old.list.items ++ mark And and ∷ (optional_lifetime name.now ++ optional_keyword Mut mutable)) }
     {
         self.glue(Punctuation::And, and)?;
@@ -137,7 +137,7 @@ impl Pieces {
     }
 
     /// Puts down what stands before the target of a raw pointer.
-    fn pointer_front(&mut self, star: Span, kind: PointerKind) -> Result<(), Memory>
+    fn pointer_front(&mut self, star: Span, kind: PointerKind) -> Result<(), AllocError>
         ensures { OnOk result (self.new.list.items ≡ self.old.list.items ++ punct Star star ∷ pointer_keyword kind ∷ []) }
     {
         self.mark(Punctuation::Star, star)?;
@@ -149,7 +149,7 @@ impl Pieces {
 
     /// Puts down types, with the commas behind them.
     #[cycle(types)]
-    pub fn types(&mut self, types: &[TypeExpr], commas: &[Span]) -> Result<(), Memory>
+    pub fn types(&mut self, types: &[TypeExpr], commas: &[Span]) -> Result<(), AllocError>
         ensures { OnOk result (self.new.list.items ≡ self.old.list.items ++ separated Comma (map type_pieces types.now) commas.now) }
     {
         for (at, ty) in types.iter().enumerate() {
@@ -161,7 +161,7 @@ impl Pieces {
 
     /// Puts down the arguments of a path in a type, if it has some.
     #[cycle(types)]
-    fn optional_arguments(&mut self, arguments: &Option<TypeArguments>) -> Result<(), Memory>
+    fn optional_arguments(&mut self, arguments: &Option<TypeArguments>) -> Result<(), AllocError>
         ensures { OnOk result (self.new.list.items ≡ self.old.list.items ++ optional (option_map arguments_pieces arguments.now)) }
     {
         match arguments {
@@ -172,7 +172,7 @@ impl Pieces {
 
     /// Puts down the arguments of a path in a type.
     #[cycle(types)]
-    fn arguments(&mut self, arguments: &TypeArguments) -> Result<(), Memory>
+    fn arguments(&mut self, arguments: &TypeArguments) -> Result<(), AllocError>
         ensures { OnOk result (self.new.list.items ≡ self.old.list.items ++ arguments_pieces arguments.now) }
     {
         self.mark(Punctuation::Lt, arguments.opening)?;
@@ -186,7 +186,7 @@ impl Pieces {
         &mut self,
         arguments: &[TypeArgument],
         commas: &[Span],
-    ) -> Result<(), Memory>
+    ) -> Result<(), AllocError>
         ensures { OnOk result (self.new.list.items ≡ self.old.list.items ++ separated Comma (map argument_pieces arguments.now) commas.now) }
     {
         for (at, argument) in arguments.iter().enumerate() {
@@ -197,7 +197,7 @@ impl Pieces {
     }
 
     #[cycle(types)]
-    fn argument(&mut self, argument: &TypeArgument) -> Result<(), Memory>
+    fn argument(&mut self, argument: &TypeArgument) -> Result<(), AllocError>
         ensures { OnOk result (self.new.list.items ≡ self.old.list.items ++ argument_pieces argument.now) }
     {
         match argument {
@@ -207,7 +207,7 @@ impl Pieces {
     }
 
     /// Puts down `::<T, ..>`, if it is there.
-    pub fn turbofish(&mut self, turbofish: &Option<Turbofish>) -> Result<(), Memory>
+    pub fn turbofish(&mut self, turbofish: &Option<Turbofish>) -> Result<(), AllocError>
         ensures { OnOk result (self.new.list.items ≡ self.old.list.items ++ turbofish_pieces turbofish.now) }
     {
         let Some(turbofish) = turbofish else {
@@ -220,7 +220,7 @@ impl Pieces {
     }
 
     /// Puts down `: T`, if it is there.
-    pub fn type_note(&mut self, note: &Option<TypeNote>) -> Result<(), Memory>
+    pub fn type_note(&mut self, note: &Option<TypeNote>) -> Result<(), AllocError>
         ensures { OnOk result (self.new.list.items ≡ self.old.list.items ++ note_pieces note.now) }
     {
         let Some(note) = note else {

@@ -4,7 +4,7 @@ use Rattle.tb_lex.specs.declared.punctuation.Punctuation.TheVariants.{Comma, Clo
 use Rattle.tb_syntax.specs.Marks.{has_mark}
 use Rattle.tb_syntax.specs.Lists.{listed_at}
 use Rattle.tb_syntax.proofs.Loops.{read_last, no_mark}
-use Rattle.tb_forms.specs.Levels.{continues}
+use Rattle.tb_forms.specs.Levels.{level_of, goes_on}
 use Rattle.tb_expr.specs.Exprs.{whole_at, field_at, lines_in, longest_at, expr_at}
 use Rattle.tb_expr.proofs.Longest.{no_step}
 use Rattle.tb_expr.proofs.Bodies.{no_line}
@@ -20,7 +20,7 @@ blocks::lines-returns-in_err-line t c =
 pub expressions::longest-returns-in_err-longer : goal.expressions::longest-returns-in_err-longer
 expressions::longest-returns-in_err-longer t c =
     let p = err_from_is_err_and c.from_residual.result c.from_residual.ensures.1 in
-    let go : continues c.args.most c.loop.rest ≡ true = search rules in
+    let go : goes_on (level_of c.loop.e) c.args.most c.loop.rest ≡ true = search rules in
     let below : c.loop.counter < c.args.steps = search rules in
     rw (p.1, p.2) (no_step c.args.depth (expr_at c.args.depth) c.args.bare c.args.most c.in_err-longer.field-0.0 c.args.steps c.loop.counter c.loop.e c.loop.rest (longest_at c.args.depth (expr_at c.args.depth) c.args.bare c.args.most c.args.steps c.args.left c.args.cursor) below go c.in_err-longer.ensures c.loop.invariant)
 

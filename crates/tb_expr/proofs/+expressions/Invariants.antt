@@ -8,118 +8,43 @@ use Rattle.tb_expr.proofs.Bodies.{after_statements}
 use Rattle.tb_expr.proofs.+expressions.Given as goal
 
 abbrev pub decreases-blocks::block_within : goal.decreases-blocks::block_within
-decreases-blocks::block_within a = a.depth * 12 + 5
+decreases-blocks::block_within a = a.depth * 8 + 3
 
 abbrev pub decreases-blocks::lines : goal.decreases-blocks::lines
-decreases-blocks::lines a = a.depth * 12 + 4
-
-abbrev pub decreases-branches::read_block : goal.decreases-branches::read_block
-decreases-branches::read_block a = a.depth * 12 + 6
-
-abbrev pub decreases-branches::read_branch : goal.decreases-branches::read_branch
-decreases-branches::read_branch a = a.depth * 12 + 6
+decreases-blocks::lines a = a.depth * 8 + 2
 
 abbrev pub decreases-branches::read_else : goal.decreases-branches::read_else
-decreases-branches::read_else a = a.depth * 12 + 7
+decreases-branches::read_else a = a.depth * 8 + 4
 
-abbrev pub decreases-branches::read_if : goal.decreases-branches::read_if
-decreases-branches::read_if a = a.depth * 12 + 8
-
-abbrev pub decreases-branches::read_loop : goal.decreases-branches::read_loop
-decreases-branches::read_loop a = a.depth * 12 + 6
-
-abbrev pub decreases-branches::read_unsafe : goal.decreases-branches::read_unsafe
-decreases-branches::read_unsafe a = a.depth * 12 + 6
-
-abbrev pub decreases-branches::read_while : goal.decreases-branches::read_while
-decreases-branches::read_while a = a.depth * 12 + 6
-
-abbrev pub decreases-enclosed::read_array : goal.decreases-enclosed::read_array
-decreases-enclosed::read_array a = a.depth * 12 + 2
-
-abbrev pub decreases-enclosed::read_assert : goal.decreases-enclosed::read_assert
-decreases-enclosed::read_assert a = a.depth * 12 + 1
-
-abbrev pub decreases-enclosed::read_call : goal.decreases-enclosed::read_call
-decreases-enclosed::read_call a = a.depth * 12 + 2
-
-abbrev pub decreases-enclosed::read_group : goal.decreases-enclosed::read_group
-decreases-enclosed::read_group a = a.depth * 12 + 2
-
-abbrev pub decreases-enclosed::read_index : goal.decreases-enclosed::read_index
-decreases-enclosed::read_index a = a.depth * 12 + 1
-
-abbrev pub decreases-enclosed::read_method : goal.decreases-enclosed::read_method
-decreases-enclosed::read_method a = a.depth * 12 + 2
-
-abbrev pub decreases-enclosed::read_print : goal.decreases-enclosed::read_print
-decreases-enclosed::read_print a = a.depth * 12 + 3
-
-abbrev pub decreases-enclosed::read_struct : goal.decreases-enclosed::read_struct
-decreases-enclosed::read_struct a = a.depth * 12 + 3
-
-abbrev pub decreases-expressions::behind_front : goal.decreases-expressions::behind_front
-decreases-expressions::behind_front a = a.depth * 12 + 9
-
-abbrev pub decreases-expressions::behind_step : goal.decreases-expressions::behind_step
-decreases-expressions::behind_step a = a.depth * 12 + 3
+abbrev pub decreases-branches::tested : goal.decreases-branches::tested
+decreases-branches::tested a = a.depth * 8 + 4
 
 abbrev pub decreases-expressions::expr_within : goal.decreases-expressions::expr_within
-decreases-expressions::expr_within a = a.depth * 12
+decreases-expressions::expr_within a = a.depth * 8
 
 abbrev pub decreases-expressions::further : goal.decreases-expressions::further
-decreases-expressions::further a = a.depth * 12 + 4
+decreases-expressions::further a = a.depth * 8 + 6
 
 abbrev pub decreases-expressions::longest : goal.decreases-expressions::longest
-decreases-expressions::longest a = a.depth * 12 + 5
+decreases-expressions::longest a = a.depth * 8 + 7
 
 abbrev pub decreases-expressions::operand : goal.decreases-expressions::operand
-decreases-expressions::operand a = a.depth * 12 + 10
+decreases-expressions::operand a = a.depth * 8 + 6
 
-abbrev pub decreases-lines::blocky_line : goal.decreases-lines::blocky_line
-decreases-lines::blocky_line a = a.depth * 12 + 1
-
-abbrev pub decreases-lines::initializer : goal.decreases-lines::initializer
-decreases-lines::initializer a = a.depth * 12 + 1
+abbrev pub decreases-expressions::read_wanted : goal.decreases-expressions::read_wanted
+decreases-expressions::read_wanted a = a.depth * 8 + 5
 
 abbrev pub decreases-lines::line_within : goal.decreases-lines::line_within
-decreases-lines::line_within a = a.depth * 12 + 3
-
-abbrev pub decreases-lines::plain_line : goal.decreases-lines::plain_line
-decreases-lines::plain_line a = a.depth * 12 + 1
-
-abbrev pub decreases-lines::read_let : goal.decreases-lines::read_let
-decreases-lines::read_let a = a.depth * 12 + 2
+decreases-lines::line_within a = a.depth * 8 + 1
 
 abbrev pub decreases-lists::field : goal.decreases-lists::field
-decreases-lists::field a = a.depth * 12 + 1
+decreases-lists::field a = a.depth * 8 + 1
 
 abbrev pub decreases-lists::fields : goal.decreases-lists::fields
-decreases-lists::fields a = a.depth * 12 + 2
+decreases-lists::fields a = a.depth * 8 + 2
 
 abbrev pub decreases-lists::values : goal.decreases-lists::values
-decreases-lists::values a = a.depth * 12 + 1
-
-abbrev pub decreases-lists::values_behind : goal.decreases-lists::values_behind
-decreases-lists::values_behind a = a.depth * 12 + 2
-
-abbrev pub decreases-operators::read_assigned : goal.decreases-operators::read_assigned
-decreases-operators::read_assigned a = a.depth * 12 + 1
-
-abbrev pub decreases-operators::read_borrow : goal.decreases-operators::read_borrow
-decreases-operators::read_borrow a = a.depth * 12 + 1
-
-abbrev pub decreases-operators::read_computed : goal.decreases-operators::read_computed
-decreases-operators::read_computed a = a.depth * 12 + 1
-
-abbrev pub decreases-operators::read_return : goal.decreases-operators::read_return
-decreases-operators::read_return a = a.depth * 12 + 1
-
-abbrev pub decreases-operators::read_right : goal.decreases-operators::read_right
-decreases-operators::read_right a = a.depth * 12 + 1
-
-abbrev pub decreases-operators::read_unary : goal.decreases-operators::read_unary
-decreases-operators::read_unary a = a.depth * 12 + 1
+decreases-lists::values a = a.depth * 8 + 1
 
 abbrev pub invariant-blocks::lines-loop : goal.invariant-blocks::lines-loop
 invariant-blocks::lines-loop l =

@@ -5,13 +5,13 @@ ghost use Rattle.tb_perm.specs.Reborrow.{AreCells};
 use crate::choice::row_of;
 use crate::plain_tree::PlainTree;
 use sqlite_items::Items;
-use std::alloc::Global;
+use std::alloc::{AllocError, Global};
 use std::marker::Brand;
 use std::process::Abort;
 use std::sync::ledger::{Blank, Ledger};
 use tb_perm::{
-    Access, BorrowTree, CellRange, Guard, Kind, Memory, NewTag, Perm, Refusal, Report, Span, State,
-    Steps, Tag, TreeError,
+    Access, BorrowTree, CellRange, Guard, Kind, NewTag, Perm, PruneTree, Refusal, Report, Span,
+    State, Steps, Tag, TreeError,
 };
 
 /// One event on a tree. A new tag may have one range of cells.
@@ -61,8 +61,8 @@ fn write(tag: u64, lo: u32, hi: u32) -> Step {
 }
 
 /// Whether the tag has a row.
-fn has_tag(tree: &PlainTree, tag: Tag) -> bool
-    ensures { IsTrue result → HasTag tree.now.rows tag.0 }
+fn has_tag<T: PruneTree>(tree: &T, tag: Tag) -> bool
+    ensures { IsTrue result → HasTag (T.rows tree.now) tag.0 }
 {
     let mut at = tree.greatest();
     loop {
@@ -155,18 +155,18 @@ fn cells_of(
     lo: u32,
     hi: u32,
     cell: Option<CellRange>,
-) -> Result<Vec<CellRange>, Memory>
+) -> Result<Vec<CellRange>, AllocError>
     requires { lo ≤ hi }
     ensures { IfOk result (λ cells. AreCells lo hi cells.items) }
 {
     let mut cells = Vec::new(alloc);
     if let Some(cell) = cell {
         if cell.lo < lo || cell.hi <= cell.lo || hi < cell.hi {
-            return Err(Memory);
+            return Err(AllocError);
         }
         match cells.push(cell) {
             Ok(()) => return Ok(cells),
-            Err(_) => return Err(Memory),
+            Err(_) => return Err(AllocError),
         }
     }
     Ok(cells)
@@ -380,7 +380,7 @@ fn accesses(rt: HostRuntime) {
 
 #[test]
 fn guards(rt: HostRuntime) {
-    // A protected tag off the way refuses a write.
+    // A protected tag off the path refuses a write.
     let (ended, _) = end_of(
         rt.alloc(),
         4,
@@ -603,7 +603,7 @@ fn frees_and_cells(rt: HostRuntime) {
     );
     assert_eq!(rt; state, Some(accessed(Perm::Cell)));
 
-    // Off the way the least tag is named, at the least byte. The reborrow of tag 4 has put tag 3 in
+    // Off the path the least tag is named, at the least byte. The reborrow of tag 4 has put tag 3 in
     // conflict.
     let (ended, _) = end_of(
         rt.alloc(),
@@ -681,7 +681,7 @@ fn through_the_bound(rt: HostRuntime) {
 }
 
 /// Takes out the only child of the tag, if that has an only child itself, which is then given.
-fn skip_child(tree: &mut PlainTree, tag: Tag) -> Option<Tag> {
+fn skip_child<T: PruneTree>(tree: &mut T, tag: Tag) -> Option<Tag> {
     if !has_tag(tree, tag) {
         return None;
     }
@@ -696,7 +696,7 @@ fn skip_child(tree: &mut PlainTree, tag: Tag) -> Option<Tag> {
 
 /// What is asked of a tag that has a row: whether it is noted after its noting, whether it is a leaf,
 /// and the tag below it.
-fn asked(tree: &mut PlainTree, tag: Tag) -> Option<(bool, bool, Option<Tag>)> {
+fn asked<T: PruneTree>(tree: &mut T, tag: Tag) -> Option<(bool, bool, Option<Tag>)> {
     if !has_tag(tree, tag) {
         return None;
     }
@@ -704,7 +704,7 @@ fn asked(tree: &mut PlainTree, tag: Tag) -> Option<(bool, bool, Option<Tag>)> {
     Some((tree.noted(tag), tree.is_leaf(tag), tree.below(tag)))
 }
 
-fn folds_into(tree: &PlainTree, tag: Tag, child: Tag) -> bool {
+fn folds_into<T: PruneTree>(tree: &T, tag: Tag, child: Tag) -> bool {
     has_tag(tree, tag) && has_tag(tree, child) && tree.folds(tag, child, false)
 }
 

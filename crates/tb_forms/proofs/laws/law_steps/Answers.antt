@@ -1,4 +1,4 @@
-use Rattle.tb_forms.proofs.Begins.{step-levels}
+use Rattle.tb_forms.proofs.Begins.{step-levels, step-operands}
 use Rattle.tb_forms.proofs.StepTakes.{step-takes}
 use Rattle.tb_forms.proofs.StepAgain.{step-again}
 use Rattle.tb_forms.proofs.laws.law_steps.Goals as goal
@@ -11,3 +11,6 @@ returns-clause-again c = step-again
 
 pub returns-clause-levels : goal.returns-clause-levels
 returns-clause-levels c = step-levels
+
+pub returns-clause-operands : goal.returns-clause-operands
+returns-clause-operands c = step-operands

@@ -1,9 +1,14 @@
-use Rattle.std.proofs.Common.{◌≡◌, ◌-◌, length}
-use Rattle.tb_syntax.specs.Repeats.{after_values, many_at, repeated_at}
-use Rattle.tb_parse.specs.Files.{item_at, has_more}
+use Rattle.std.proofs.Common.{◌≤◌, length, map}
+use Rattle.tb_ast.specs.Depth.{deepest, item_depth}
+use Rattle.tb_syntax.specs.State.{piece_of}
+use Rattle.tb_parse.specs.Trees.{IsRun}
 use Rattle.tb_parse.proofs.file.items.Given as goal
 
-abbrev pub invariant-loop : goal.invariant-loop
-invariant-loop l =
-    after_values l.items (many_at has_more (item_at 127) (length l.fn.cursor - l.counter) l.rest)
-    ≡ repeated_at has_more (item_at 127) l.fn.cursor
+abbrev pub invariant-loop-alloc : goal.invariant-loop-alloc
+invariant-loop-alloc l = record {
+  run : IsRun (map piece_of l.tokens) l.items (map piece_of l.rest);
+  depth : deepest (map item_depth l.items) ≤ 128;
+}
+
+abbrev pub decreases-loop-alloc : goal.decreases-loop-alloc
+decreases-loop-alloc l = length l.rest

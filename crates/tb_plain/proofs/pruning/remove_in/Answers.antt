@@ -2,7 +2,8 @@ use Rattle.std.proofs.Common.{◌∙◌, ap, sym, subst, inl, inr}
 use Rattle.std.specs.Prelude.{IsSome}
 use Rattle.tb_shape.proofs.Uses.{some_from}
 use Rattle.tb_plain.specs.Plain.{IsPlain, rows_in, notes_of}
-use Rattle.tb_plain.proofs.Pruned.{parent_in-tree, leaf_out, row_of_child}
+use Rattle.tb_plain.proofs.Paths.{parent_in-tree}
+use Rattle.tb_plain.proofs.Pruned.{leaf_out, row_of_child}
 use Rattle.tb_plain.proofs.TakenOut.{remove_others, rows-removed, IsPlain-removed, notes-removed}
 use Rattle.tb_plain.proofs.pruning.remove_in.Goals as goal
 

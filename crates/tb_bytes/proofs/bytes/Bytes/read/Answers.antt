@@ -1,22 +1,42 @@
-use Rattle.std.proofs.Common.{◌≡◌, ◌∷◌, [], ◌++◌, ap, sym, ◌∙◌, arith}
+use Rattle.std.proofs.Common.{◌≡◌, ◌≤◌, ◌+◌, length, drop, IfOk, ap, sym, ◌∙◌, subst, arith}
 use Rattle.std.specs.List.{slice_range}
-use Rattle.std.proofs.lemmas.Option.{get_or_from_slice_get}
-use Rattle.tb_bytes.proofs.Marking.{slice_range-more, slice_range-none}
+use Rattle.std.proofs.lemmas.List.{length-drop}
+use Rattle.tb_bytes.specs.Parts.{byte_list}
+use Rattle.tb_bytes.proofs.PartsLaws.{length_parts, clear_long, byte_list-part}
 use Rattle.tb_bytes.proofs.bytes.Bytes.read.Goals as goal
 
-pub loop-at-init : goal.loop-at-init
-loop-at-init c = c.new-bytes.ensures.items ∙ sym (slice_range-none c.args.self.now c.args.lo)
+pub read_from-init-requires : goal.read_from-init-requires
+read_from-init-requires c =
+    omega (arith, c.requires.within, c.requires.order, length_parts c.self.inside.values.items c.self.inside.init c.self.inside.provs c.self.invariant, ap length c.self.view_is, c.self.invariant.0)
 
-pub loop-at-preserved : goal.loop-at-preserved
-loop-at-preserved c =
-    let all = c.args.self.now in
-    let at = c.loop-at.at in
-    c.in-Ok.ensures.items
-    ∙ ap (λ xs. xs ++ c.byte.result ∷ []) c.loop-at.invariant
-    ∙ ap (λ b. slice_range all c.args.lo at ++ b ∷ []) (sym (get_or_from_slice_get all at c.byte.result c.byte.result c.byte.ensures))
-    ∙ sym (slice_range-more all c.args.lo at c.byte.result c.loop-at.auto.at (omega (arith, c.requires.within)))
+pub read_from-provs-requires : goal.read_from-provs-requires
+read_from-provs-requires c =
+    omega (arith, c.requires.within, c.requires.order, length_parts c.self.inside.values.items c.self.inside.init c.self.inside.provs c.self.invariant, ap length c.self.view_is, c.self.invariant.0, clear_long c.self.inside.init c.self.inside.provs c.self.invariant.1)
+
+pub read_bytes-requires-clause-within : goal.read_bytes-requires-clause-within
+read_bytes-requires-clause-within c =
+    omega (arith, c.requires.within, length_parts c.self.inside.values.items c.self.inside.init c.self.inside.provs c.self.invariant, ap length c.self.view_is, ap length c.deref.ensures.value)
+
+pub read_bytes-requires-clause-init : goal.read_bytes-requires-clause-init
+read_bytes-requires-clause-init c =
+    omega (arith, ap length c.read_from-init.ensures, length-drop c.args.lo c.self.inside.init, c.requires.within, length_parts c.self.inside.values.items c.self.inside.init c.self.inside.provs c.self.invariant, ap length c.self.view_is, c.self.invariant.0)
+
+pub read_bytes-requires-clause-provs : goal.read_bytes-requires-clause-provs
+read_bytes-requires-clause-provs c =
+    omega (arith, ap length c.read_from-provs.ensures, length-drop c.args.lo c.self.inside.provs, c.requires.within, length_parts c.self.inside.values.items c.self.inside.init c.self.inside.provs c.self.invariant, ap length c.self.view_is, c.self.invariant.0, clear_long c.self.inside.init c.self.inside.provs c.self.invariant.1)
 
 pub returns : goal.returns
 returns c =
-    let end : c.loop-at.at ≡ c.args.hi = omega (arith, c.loop-at.auto.at-end c.requires.order) in
-    c.loop-at.invariant ∙ ap (slice_range c.args.self.now c.args.lo) end
+    let lo = c.args.lo in
+    let hi = c.args.hi in
+    let values = c.self.inside.values.items in
+    let init = c.self.inside.init in
+    let provs = c.self.inside.provs in
+    let is =
+    ap (λ vs. byte_list (slice_range vs lo hi) c.read_from-init.result c.read_from-provs.result) c.deref.ensures.value
+    ∙ ap (λ xs. byte_list (slice_range values lo hi) xs c.read_from-provs.result) c.read_from-init.ensures
+    ∙ ap (byte_list (slice_range values lo hi) (drop lo init)) c.read_from-provs.ensures
+    ∙ byte_list-part lo hi values init provs
+    ∙ ap (λ bytes. slice_range bytes lo hi) c.self.view_is
+    in
+    subst (λ xs. IfOk c.read_bytes.result (λ bytes. bytes.items ≡ xs)) is c.read_bytes.ensures

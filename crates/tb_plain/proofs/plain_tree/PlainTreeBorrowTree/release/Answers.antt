@@ -1,8 +1,17 @@
-use Rattle.std.proofs.Common.{subst}
+use Rattle.std.proofs.Common.{◌∙◌, ap, subst}
 use Rattle.tb_perm.specs.Answer.{Answers}
 use Rattle.tb_perm.specs.Release.{release_report}
 use Rattle.tb_plain.specs.Plain.{Plain}
+use Rattle.tb_plain.proofs.Notes.{IsTree-plain}
 use Rattle.tb_plain.proofs.plain_tree.PlainTreeBorrowTree.release.Goals as goal
 
 pub returns-clause-answer : goal.returns-clause-answer
 returns-clause-answer g c = subst (λ (t : Plain). Answers {T = Unit {0}} (release_report t.rows t.size c.args.tag.0) c.release_in.result) c.self.view_is c.release_in.ensures.answer
+
+pub returns-clause-continues : goal.returns-clause-continues
+returns-clause-continues g c =
+    record {
+      same_extent = ap (λ (t : Plain). t.size) c.self.view_is;
+      same_notes = c.release_in.ensures.notes ∙ ap (λ (t : Plain). t.notes) c.self.view_is;
+      sound = IsTree-plain _ _ _ c.release_in.ensures.plain;
+    }

@@ -2,7 +2,7 @@ use Rattle.tb_perm.specs.Rows.{HasTag}
 use Rattle.tb_plain.proofs.plain_tree.tests.has_tag.Given as goal
 
 abbrev pub invariant-loop-at : goal.invariant-loop-at
-invariant-loop-at l = HasTag l.tree.rows l.at.0
+invariant-loop-at g l = HasTag (g.T.BorrowTree.rows l.tree) l.at.0
 
 abbrev pub decreases-loop-at : goal.decreases-loop-at
-decreases-loop-at l = l.at.0
+decreases-loop-at g l = l.at.0

@@ -1,0 +1,1 @@
+fn main() { let mut x = 1; let p = &raw mut x; let r = unsafe { &mut *p }; *r = 7; let y = unsafe { *p + 1 }; println!("{} {}", x, y); }

@@ -1,0 +1,1 @@
+fn main() { let mut x = 1; let a = &x; print!("{}", *a); x = 2; let a = &x; print!("{}", *a); }

@@ -1,0 +1,1 @@
+fn main() { let mut x = 1; let r = &mut x; *r = x + 1; println!("{}", *r); }

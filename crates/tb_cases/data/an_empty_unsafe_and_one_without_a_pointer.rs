@@ -1,0 +1,1 @@
+fn main() { let mut x = 1; unsafe {} unsafe { x = x + 1; print!("{}", x); } unsafe {} }

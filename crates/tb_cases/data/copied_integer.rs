@@ -1,0 +1,1 @@
+fn main() { let mut a = 1; let b = a; a = 5; print!("{}{}", a, b); }

@@ -1,0 +1,1 @@
+fn main() { let mut x = 1; let mut p = &raw mut x; p = &raw const x; }

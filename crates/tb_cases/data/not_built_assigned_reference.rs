@@ -1,0 +1,1 @@
+fn main() { let mut x = 1; let mut r = &mut x; r = &mut x; }

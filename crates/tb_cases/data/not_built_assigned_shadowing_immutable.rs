@@ -1,0 +1,1 @@
+fn main() { let mut a = 1; let a = 2; a = 3; }

@@ -1,0 +1,1 @@
+fn main() { let mut x = 1; let p = &raw mut x; let y = *p; }

@@ -1,0 +1,1 @@
+fn main() { let mut x = 1; let c = &raw const x; unsafe { *c = 2; } }

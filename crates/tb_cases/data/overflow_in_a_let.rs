@@ -1,0 +1,1 @@
+fn main() { let x = 2147483647; print!("a"); let y = x + 1; }

@@ -1,0 +1,1 @@
+fn main() { let x = 2147483647; let r = &x; print!("a"); let y = *r + 1; }

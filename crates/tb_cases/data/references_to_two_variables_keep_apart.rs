@@ -1,0 +1,1 @@
+fn main() { let mut x = 1; let mut y = 2; let a = &mut x; let b = &mut y; *a = *b + 1; *b = *a + 1; println!("{} {}", x, y); }

@@ -1,0 +1,1 @@
+fn main() { let x = 20; let a = &x; let b = &*a; let y = *a + *b + 2; println!("{}", y); }

@@ -1,0 +1,10 @@
+use Rattle.std.proofs.Common.{length, map}
+use Rattle.tb_syntax.specs.State.{piece_of}
+use Rattle.tb_parse.specs.Trees.{IsInnerRun}
+use Rattle.tb_parse.proofs.file.inners.Given as goal
+
+abbrev pub invariant-loop-alloc : goal.invariant-loop-alloc
+invariant-loop-alloc l = IsInnerRun (map piece_of l.tokens) l.inners (map piece_of l.rest)
+
+abbrev pub decreases-loop-alloc : goal.decreases-loop-alloc
+decreases-loop-alloc l = length l.rest
