@@ -5,10 +5,10 @@ use Rattle.std.proofs.lemmas.Bool.{eq-eqb, ne_eqb, or_right}
 use Rattle.std.proofs.lemmas.List.Elements.{recursion_from_All}
 use Rattle.tb_perm.specs.Rows.{Row, is_tag, HasTag}
 use Rattle.tb_perm.specs.Pruning.{is_noted}
-use Rattle.tb_perm.specs.Calls.{IsTree, Continues}
+use Rattle.tb_perm.specs.Calls.{IsTree}
 use Rattle.tb_shape.specs.Tree.{Keys}
 use Rattle.tb_plain.specs.declared.row.PlainRow.{PlainRow}
-use Rattle.tb_plain.specs.Plain.{Plain, row_in, rows_in, IsPlain, notes_of}
+use Rattle.tb_plain.specs.Plain.{rows_in, IsPlain, notes_of}
 
 -- tags of the older rows are tags of all rows
 later : (tree : Keys) (r : PlainRow) (rows : List PlainRow) (notes : List ℕ) → AllByRecursion (HasTag (rows_in tree rows)) notes → AllByRecursion (HasTag (rows_in tree (r ∷ rows))) notes

@@ -1,15 +1,15 @@
 -- The path of a tag in the rows is its path in the tree of tags.
-use Rattle.std.proofs.Common.{◌≡◌, ◌∙◌, ◌||◌, ℕ, Bool, true, false, cond, List, [], ◌∷◌, map, reverse, refl, ap, sym, subst, Option, Some, None, find, ◌==◌}
+use Rattle.std.proofs.Common.{◌≡◌, ◌∙◌, ◌||◌, ℕ, Bool, true, false, cond, List, [], ◌∷◌, map, refl, ap, sym, subst, Option, Some, None, find, ◌==◌}
 use Rattle.std.specs.Prelude.{option_map, option_and_then}
 use Rattle.std.specs.List.{list_any, AllByRecursion, cons_option}
 use Rattle.std.proofs.lemmas.Bool.{eqb-true, eq-eqb, or_right}
 use Rattle.tb_perm.specs.Rows.{Row, is_tag, tags, HasTag, path_to_root, is_on_path}
 use Rattle.tb_perm.specs.Pruning.{parent_in}
 use Rattle.tb_perm.proofs.PathTags.{IsPathBy, path_by_same, path_tags, path_is_tags, any_tags}
-use Rattle.tb_perm.proofs.Unique.{AreRising-rows, find_self, AllByRecursion-reverse, AllByRecursion-path_to_root}
+use Rattle.tb_perm.proofs.Unique.{AreRising-rows, find_self, AllByRecursion-path_to_root}
 use Rattle.tb_shape.specs.Tree.{Keys, is_key, HasKey, parent_of, IsPath, IsAncestor}
 use Rattle.tb_plain.specs.declared.row.PlainRow.{PlainRow}
-use Rattle.tb_plain.specs.Plain.{row_in, rows_in, IsPlain}
+use Rattle.tb_plain.specs.Plain.{states_of, row_in, rows_in, IsPlain}
 use Rattle.tb_plain.specs.Sweep.{is_plain, rows_on, contains}
 use Rattle.tb_plain.specs.Pruning.{tags_of}
 
@@ -47,6 +47,11 @@ find-rows_in tree (row ∷ rows) key = at (find-rows_in tree rows key) (row.tag.
     at : find (is_tag key) (rows_in tree rows) ≡ option_map (row_in tree) (find (is_plain key) rows) → (b : Bool) → cond b (Some (row_in tree row)) (find (is_tag key) (rows_in tree rows)) ≡ option_map (row_in tree) (cond b (Some row) (find (is_plain key) rows))
     at later true = refl
     at later false = later
+
+-- the states of the row that is found
+pub states_found : (tree : Keys) (rows : List PlainRow) (key : ℕ) (found : Option PlainRow) → find (is_plain key) rows ≡ found → option_map (λ (row : PlainRow). row.states) found ≡ states_of (rows_in tree rows) key
+states_found tree rows key None is = sym (ap (option_map (λ (row : Row). row.states)) (find-rows_in tree rows key ∙ ap (option_map (row_in tree)) is))
+states_found tree rows key (Some row) is = sym (ap (option_map (λ (row : Row). row.states)) (find-rows_in tree rows key ∙ ap (option_map (row_in tree)) is))
 
 -- parents in the rows are those in the tree of tags
 missing_key : (tree : Keys) (keys : List ℕ) (u : ℕ) → map (λ (e : ℕ × Option ℕ). e.0) tree ≡ keys → contains keys u ≡ false → find (is_key u) tree ≡ None

@@ -11,14 +11,14 @@ use Rattle.tb_perm.specs.declared.perm.State.{State}
 use Rattle.tb_perm.specs.declared.perm.Perm.TheVariants.{Disabled}
 use Rattle.tb_perm.specs.Rows.{Row, HasTag, IsRows, state_at}
 use Rattle.tb_perm.specs.Pruning.{is_noted, parent_in, IsLeaf, IsOnlyChild, perm_in, Folds}
-use Rattle.tb_shape.specs.Tree.{Keys, is_key, parent_of, is_child_of, AreChildren}
+use Rattle.tb_shape.specs.Tree.{Keys, parent_of, is_child_of, AreChildren}
 use Rattle.tb_plain.specs.declared.row.PlainRow.{PlainRow}
 use Rattle.tb_plain.specs.Plain.{row_in, rows_in, IsPlain, notes_of}
 use Rattle.tb_perm.specs.Rows.{tags}
 use Rattle.tb_plain.specs.Sweep.{is_plain, HasPlain, contains, plain_state}
 use Rattle.tb_plain.specs.Pruning.{tags_of, noted_plain, cleared_plain, is_lesser, IsGreatest}
 use Rattle.tb_perm.proofs.PathTags.{any_tags}
-use Rattle.tb_plain.proofs.Paths.{find-rows_in, found_tag, parent_in-tree}
+use Rattle.tb_plain.proofs.Paths.{find-rows_in, parent_in-tree}
 use Rattle.tb_plain.proofs.Fitting.{tags-rows_in, row_sized}
 
 -- a note changes no row of the tree

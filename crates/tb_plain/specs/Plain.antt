@@ -1,7 +1,9 @@
 -- What contracts see of a `PlainTree`, and what is true of its fields.
-use Rattle.std.specs.Prelude.{◌≡◌, ℕ, List, Option, map, filter}
+use Rattle.std.specs.Prelude.{◌≡◌, ℕ, List, Option, map, filter, find}
+use Rattle.std.specs.Option.{option_map}
+use Rattle.tb_perm.specs.declared.perm.State.{State}
 use Rattle.tb_shape.specs.Tree.{Keys, parent_of}
-use Rattle.tb_perm.specs.Rows.{Row, IsRows}
+use Rattle.tb_perm.specs.Rows.{Row, IsRows, is_tag}
 use Rattle.tb_plain.specs.declared.row.PlainRow.{PlainRow}
 
 -- its rows, how many bytes it has, and the tags that are noted, in rising order
@@ -26,3 +28,7 @@ notes_of rows = map (λ (row : PlainRow). row.tag.0) (filter (λ (row : PlainRow
 pub record IsPlain (tree : Keys) (rows : List PlainRow) (size : ℕ) : Type 0 where
   pub sound : IsRows size (rows_in tree rows)
   pub keys : map (λ (entry : ℕ × Option ℕ). entry.0) tree ≡ map (λ (row : PlainRow). row.tag.0) rows
+
+-- the state of a tag at each byte, if it has a row
+abbrev pub states_of : List Row → ℕ → Option (List State)
+states_of rows t = option_map (λ (row : Row). row.states) (find (is_tag t) rows)

@@ -1,16 +1,12 @@
 use crate::changes::{retag_in, root_rows, unguard_in};
 use crate::events::{access_in, free_in, release_in};
 use crate::pruning::{clear_in, is_noted_in, note_in, remove_in};
-use crate::queries::{folds_in, greatest_of, is_leaf_in, less_than, only_child_in};
+use crate::queries::{folds_in, greatest_of, is_leaf_in, less_than, only_child_in, states_in};
 use crate::row::PlainRow;
-
-#[cfg(test)]
-mod tests;
-
 use std::alloc::{AllocError, Global};
 use std::marker::Model;
 use std::sync::ledger::Ledger;
-use tb_perm::{BorrowTree, Kind, NewTag, PruneTree, Span, Steps, Tag, TreeError};
+use tb_perm::{BorrowTree, Kind, NewTag, PruneTree, Span, State, Steps, Tag, TreeError};
 use tb_shape::Shape;
 
 /// A tree of tags that keeps one state for every tag and byte. Contracts see its rows, how many
@@ -30,6 +26,19 @@ impl Model for PlainTree {
     ghost view = { λ t. record { rows = rows_in t.shape t.rows.items; size = t.size; notes = notes_of t.rows.items } };
 
     ghost invariant = { λ t. IsPlain t.shape t.rows.items t.size };
+}
+
+impl PlainTree {
+    ghost use Rattle.std.specs.Prelude.{◌≡◌};
+    ghost use Rattle.std.specs.Option.{option_map};
+    ghost use Rattle.tb_plain.specs.Plain.{states_of};
+
+    /// The state of a tag at each byte; none where it has no row.
+    pub fn states_of(&self, tag: Tag) -> Option<&[State]>
+        ensures { option_map (λ states. states.now) result ≡ states_of self.now.rows tag.0 }
+    {
+        states_in(&self.shape, &self.rows, tag)
+    }
 }
 
 impl BorrowTree for PlainTree {

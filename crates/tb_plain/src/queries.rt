@@ -3,13 +3,25 @@
 ghost use Rattle.std.specs.Prelude.{◌≡◌, ◌≢◌, ◌≤◌, ◌<◌, ◌↔◌, ℕ, All, IfSome, IfNone, IsSome, IsTrue, None};
 ghost use Rattle.tb_perm.specs.Rows.{Row, HasTag};
 ghost use Rattle.tb_perm.specs.Pruning.{parent_in, IsLeaf, IsOnlyChild, Folds};
-ghost use Rattle.tb_plain.specs.Plain.{IsPlain, rows_in};
+ghost use Rattle.std.specs.Option.{option_map};
+ghost use Rattle.tb_plain.specs.Plain.{IsPlain, rows_in, states_of};
 
+use crate::choice::row_of;
 use crate::events::row_at;
 use crate::pruning::{folds_over, greatest_below, is_leaf_key, only_of};
 use crate::row::PlainRow;
-use tb_perm::Tag;
+use tb_perm::{State, Tag};
 use tb_shape::Shape;
+
+/// The state of a tag at each byte; none where it has no row.
+pub fn states_in<'a>(shape: &Shape, rows: &'a [PlainRow], tag: Tag) -> Option<&'a [State]>
+    ensures { option_map (λ states. states.now) result ≡ states_of (rows_in shape.now rows.now) tag.0 }
+{
+    match row_of(rows, tag.0) {
+        Some(row) => Some(row.states.as_slice()),
+        None => None,
+    }
+}
 
 /// The greatest tag.
 pub fn greatest_of(shape: &Shape, rows: &[PlainRow], size: u32) -> Tag

@@ -1,5 +1,5 @@
 use Rattle.tb_perm.specs.Rows.{HasTag}
-use Rattle.tb_plain.proofs.plain_tree.tests.has_tag.Given as goal
+use Rattle.tb_borrow_cases.proofs.play.has.Given as goal
 
 abbrev pub invariant-loop-at : goal.invariant-loop-at
 invariant-loop-at g l = HasTag (g.T.BorrowTree.rows l.tree) l.at.0

@@ -1,4 +1,0 @@
-use Rattle.tb_plain.proofs.plain_tree.tests.end_of.Given as goal
-
-abbrev pub ghosts-outcome : goal.ghosts-outcome
-ghosts-outcome a = record { name = a.blank.name; parts = a.blank.parts }
