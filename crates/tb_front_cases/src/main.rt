@@ -5,6 +5,7 @@
 #![tactic(auto)]
 
 mod mentions;
+mod names;
 mod page;
 mod tokens;
 mod trees;
@@ -29,6 +30,7 @@ fn found(alloc: Global, case: Case<'_>) -> Result<String, AllocError> {
         ("count", None) => tokens::count(alloc, &text),
         ("characters", None) => values::characters(alloc, &text),
         ("mentions", None) => mentions::words(alloc, &text),
+        ("names", None) => names::words(alloc, &text),
         (_, None) => String::from_str(alloc, "unknown kind"),
     }
 }

@@ -1,0 +1,4 @@
+pub mod Names
+pub mod Limits
+pub mod Repeats
+pub mod Main
