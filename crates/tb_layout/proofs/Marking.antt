@@ -27,7 +27,7 @@ pub marks_is : (types : TypeTable) → AreTypes types → (ty : Ty) (shape : TyS
 marks_is types sound ty shape h e = folded_step (marks_by types) types sound ty shape h e
 
 -- there is a mark for each byte
-times_suc : (n m : ℕ) → suc n * m ≡ m + n * m
+pub times_suc : (n m : ℕ) → suc n * m ≡ m + n * m
 times_suc n m = mul_comm (suc n) m ∙ mul-suc m n ∙ (let e : m * n + m ≡ m + m * n = omega arith in e) ∙ ap (λ k. m + k) (mul_comm m n)
 
 length_copies : (n : ℕ) (marks : List Bool) (size : ℕ) → length marks ≡ size → length (copies n marks) ≡ n * size

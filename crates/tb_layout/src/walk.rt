@@ -110,7 +110,7 @@ fn put_leaves_of_shape(
     }
 }
 
-/// Puts the leaves of the elements of an array, if the walk gives all.
+/// Puts the leaves of the elements of an array, if the walk gives all. Elements of no size have none.
 #[cycle(walking)]
 fn put_elements(
     types: &Types,
@@ -133,7 +133,11 @@ fn put_elements(
     if n == 0 {
         return Ok(());
     }
+    types.law_types();
     let (size, _) = types.size_align(part);
+    if size == 0 {
+        return Ok(());
+    }
     let mut next = at;
     for _ in 0..n {
         put_leaves(types, leaves, next, part, all, left - 1)?;

@@ -7,7 +7,7 @@ use Rattle.tb_layout.specs.declared.leaf.Leaf.{Leaf}
 use Rattle.tb_layout.specs.Leaves.{moved, leaves_of}
 use Rattle.tb_layout.proofs.Placing.{extent_is, named_types, own_parts, drop_is, fields_is, roomy_step, roomy_tuple, roomy_struct}
 use Rattle.tb_layout.proofs.Marking.{on_ok, next_step}
-use Rattle.tb_layout.proofs.Walking.{leaves_is, element_step, leaf_step, parts_end}
+use Rattle.tb_layout.proofs.Walking.{leaves_is, no_elements, element_step, leaf_step, parts_end}
 use Rattle.tb_layout.proofs.walk.+walking.Goals as goal
 
 pub put_leaves-put_leaves_of_shape-requires : goal.put_leaves-put_leaves_of_shape-requires
@@ -81,6 +81,10 @@ put_leaves_of_shape-put_leaves_of_fields-requires t c = (
   search rules,
   roomy_struct c.args.types.now c.args.at c.args.left c.args.shape.now c.requires.parts c.requires.layout c.requires.left c.requires.room c.in-Struct.item c.fields.result.now c.in-Struct.is c.fields.ensures,
 )
+
+pub put_elements-returns-then-size-eq0 : goal.put_elements-returns-then-size-eq0
+put_elements-returns-then-size-eq0 t c =
+    no_elements c.args.all c.args.types.now c.law_types.ensures.types c.args.part c.requires.ty (sym c.size_align-size.ensures.size ∙ c.if-size-eq0.true) c.args.n c.args.at c.args.leaves.now.items
 
 pub put_elements-loop-preserved : goal.put_elements-loop-preserved
 put_elements-loop-preserved t c = record {
