@@ -1,27 +1,26 @@
 -- Parts within the limits, placed one after another.
-use Rattle.std.proofs.Common.{◌≡◌, refl, sym, ◌∙◌, ap, subst, ℕ, ◌+◌, ◌≤◌, ◌<◌, Bool, true, ◌&&◌, List, [], ◌∷◌, ◌++◌, length, map, drop, get_or, Some, Option, arith, add-one}
+use Rattle.std.proofs.Common.{◌≡◌, refl, sym, ◌∙◌, ap, subst, ℕ, ◌+◌, ◌≤◌, Bool, true, ◌&&◌, List, [], ◌∷◌, ◌++◌, map, drop, Some, Option, slice_get, arith, add-one, suc, zero}
 use Rattle.std.specs.Prelude.{nat_le}
 use Rattle.std.specs.List.{AllByRecursion}
 use Rattle.std.specs.Cmp.{first_so, second_so}
 use Rattle.std.proofs.lemmas.Bool.{leb-true, le-leb}
 use Rattle.std.proofs.lemmas.List.{append_assoc}
-use Rattle.std.proofs.Math.Seq.{drop-cons}
 use Rattle.tb_types.specs.declared.shape.Ty.{Ty}
 use Rattle.tb_types.specs.declared.shape.TyShape.{TyShape}
 use Rattle.tb_types.specs.declared.shape.TyShape.TheVariants.{Tuple, Struct}
-use Rattle.tb_types.specs.declared.item.Field.{Field}
-use Rattle.tb_types.specs.Table.{TypeTable, IsType, shape_at, fields_at, named_in}
-use Rattle.tb_types.specs.Folded.{Node, node_in, types_in, types_of}
+use Rattle.tb_types.specs.Table.{TypeTable, IsType, shape_at, named_in}
+use Rattle.tb_types.specs.Folded.{Node, node_in}
+use Rattle.tb_types.specs.Pieces.{side_by_side}
 use Rattle.tb_types.specs.Sound.{AreTypes}
 use Rattle.tb_types.specs.declared.extent.Extent.{Extent}
 use Rattle.tb_types.specs.declared.extent.Row.{Row}
 use Rattle.tb_types.specs.Extent.{rounded, nothing, with_part, laid, together, extent_in, extent_by, extent_of, is_within, fits}
 use Rattle.tb_layout.specs.Layout.{places}
-use Rattle.tb_layout.specs.LaysOut.{AreLaidOut, AreRoomy, LaysOut}
+use Rattle.tb_layout.specs.LaysOut.{AreLaidOut, AreRoomy}
 use Rattle.tb_types.proofs.Capping.{AreAligned, rounded_above, laid_align, laid_levels}
 use Rattle.tb_types.proofs.Extents.{some_extent, aligned}
 use Rattle.tb_types.proofs.CallerLemmas.{folded_step, parts_types}
-use Rattle.tb_types.proofs.Within.{all_to, node_found}
+use Rattle.tb_types.proofs.Within.{get_found, all_to, node_found}
 
 abbrev pub row_at : ℕ → Row
 row_at end = record nothing { end = end }
@@ -82,11 +81,32 @@ module _ (types : TypeTable) (rest : List Ty) (part : Ty) (more : List Ty) (is :
       ∙ append_assoc old (rounded end (extent_of types part).align ∷ []) (places (rounded end (extent_of types part).align + (extent_of types part).size) (map (extent_of types) more))
       ∙ ap (λ (list : List Ty). old ++ places end (map (extent_of types) list)) (sym is) ∙ told
 
-pub drop_is : {X : Type 0} (xs : List X) (i : ℕ) (d : X) → i < length xs → drop i xs ≡ get_or xs i d ∷ drop (i + 1) xs
-drop_is xs i d h = drop-cons xs i d h ∙ ap (λ n. get_or xs i d ∷ drop n xs) (sym (add-one i))
+-- and none
+append_none : (list : List ℕ) → list ++ [] ≡ list
+append_none [] = refl
+append_none (x ∷ list) = ap (λ (rest : List ℕ). x ∷ rest) (append_none list)
 
-pub fields_is : (fields : List Field) (i : ℕ) (field : Field) → i < length fields → field ≡ get_or fields i field → types_in (drop i fields) ≡ field.ty ∷ types_in (drop (i + 1) fields)
-fields_is fields i field h e = ap types_in (drop_is fields i field h) ∙ ap (λ (f : Field). f.ty ∷ types_in (drop (i + 1) fields)) (sym e)
+pub places_end : (types : TypeTable) (rest : List Ty) (end : ℕ) (offsets total : List ℕ) → rest ≡ [] → offsets ++ places end (map (extent_of types) rest) ≡ total → offsets ≡ total
+places_end types rest end offsets total is told = sym (append_none offsets) ∙ sym (ap (λ (list : List Ty). offsets ++ places end (map (extent_of types) list)) is) ∙ told
+
+-- what is left of parts, by a look-up
+next_is : {X : Type 0} (xs : List X) (i : ℕ) (x : X) → slice_get xs i ≡ Some x → drop i xs ≡ x ∷ drop (suc i) xs
+next_is [] i x e = cc
+next_is (y ∷ xs) zero x e = let f : y ≡ x = cc in ap (λ z. z ∷ xs) f
+next_is (y ∷ xs) (suc i) x e = next_is xs i x e
+
+none_left : {X : Type 0} (xs : List X) (i : ℕ) → ((x : X) → slice_get xs i ≡ Some x → ⊥) → drop i xs ≡ []
+none_left [] zero h = refl
+none_left [] (suc i) h = refl
+none_left (x ∷ xs) zero h = absurd (h x refl)
+none_left (x ∷ xs) (suc i) h = none_left xs i h
+
+pub part_is : (types : TypeTable) (ty : Ty) (place : ℕ) (found : Option Ty) (part : Ty) → found ≡ slice_get (side_by_side types (shape_at types ty)) place → found ≡ Some part
+    → drop place (side_by_side types (shape_at types ty)) ≡ part ∷ drop (place + 1) (side_by_side types (shape_at types ty))
+part_is types ty place found part e f = next_is (side_by_side types (shape_at types ty)) place part (sym e ∙ f) ∙ ap (λ n. part ∷ drop n (side_by_side types (shape_at types ty))) (sym (add-one place))
+
+pub no_part : (types : TypeTable) (ty : Ty) (place : ℕ) (found : Option Ty) → found ≡ slice_get (side_by_side types (shape_at types ty)) place → ((part : Ty) → found ≡ Some part → ⊥) → drop place (side_by_side types (shape_at types ty)) ≡ []
+no_part types ty place found e h = none_left (side_by_side types (shape_at types ty)) place (λ part f. h part (e ∙ f))
 
 -- each part is no larger than all of them
 pub record IsNoLarger (row : Row) (part : Extent) : Type 0 where
@@ -131,14 +151,27 @@ laid_out types parts h =
       room = omega arith;
     }
 
-by_shape : (types : TypeTable) (shape : TyShape) → is_within (extent_in (node_in types shape).tree (map (extent_of types) (node_in types shape).parts)) ≡ true → LaysOut types shape
+by_shape : (types : TypeTable) (shape : TyShape) → is_within (extent_in (node_in types shape).tree (map (extent_of types) (node_in types shape).parts)) ≡ true → AreLaidOut types (side_by_side types (Some shape))
 by_shape types (Tuple parts) h = laid_out types parts h
 by_shape types (Struct item) h = laid_out types (node_in types (Struct item)).parts h
-by_shape types shape h = tt
+by_shape types shape h = record { each = tt; room = omega arith }
 
--- the parts of a type that has a layout have one
-pub lays_out : (types : TypeTable) → AreTypes types → (ty : Ty) (shape : TyShape) → IsType types ty → shape_at types ty ≡ Some shape → fits types ty ≡ true → LaysOut types shape
-lays_out types sound ty shape h e layout = by_shape types shape (subst (λ (extent : Extent). is_within extent ≡ true) (extent_is types sound ty shape h e) layout)
+-- the parts of a type that is not too large have offsets
+pub lays_out : (types : TypeTable) → AreTypes types → (ty : Ty) → IsType types ty → fits types ty ≡ true → AreLaidOut types (side_by_side types (shape_at types ty))
+lays_out types sound ty h layout =
+    let found : (shape : TyShape) × (shape_at types ty ≡ Some shape) = get_found types.shapes ty.0 h in
+    subst (λ (shape : Option TyShape). AreLaidOut types (side_by_side types shape)) (sym found.1) (by_shape types found.0 (subst (λ (extent : Extent). is_within extent ≡ true) (extent_is types sound ty found.0 h found.1) layout))
+
+-- and are types
+own_sides : (types : TypeTable) (shape : TyShape) → AllByRecursion (IsType types) (node_in types shape).parts → AllByRecursion (IsType types) (side_by_side types (Some shape))
+own_sides types (Tuple parts) h = h
+own_sides types (Struct item) h = h
+own_sides types shape h = tt
+
+pub sides_types : (types : TypeTable) → AreTypes types → (ty : Ty) → IsType types ty → AllByRecursion (IsType types) (side_by_side types (shape_at types ty))
+sides_types types sound ty h =
+    let found : (shape : TyShape) × (shape_at types ty ≡ Some shape) = get_found types.shapes ty.0 h in
+    subst (λ (shape : Option TyShape). AllByRecursion (IsType types) (side_by_side types shape)) (sym found.1) (own_sides types found.0 (own_parts types sound ty found.0 h found.1))
 
 pub room_next : (end next : ℕ) (part : Extent) (parts : List Extent) → HasRoom end part parts → next ≡ rounded end part.align + part.size → (laid (row_at next) parts).end ≤ 1048576
 room_next end next part parts room e = subst (λ n. (laid (row_at n) parts).end ≤ 1048576) (sym e) room.rest_fits
@@ -190,25 +223,16 @@ roomy_step types at left end rest part more is roomy =
       };
     }
 
--- what lies in a shape that is not too large is laid in time
-RoomyShape : TypeTable → ℕ → ℕ → TyShape → Type 0
-RoomyShape types at left (Tuple parts) = AreRoomy types at left 0 parts
-RoomyShape types at left (Struct item) = AreRoomy types at left 0 (node_in types (Struct item)).parts
-RoomyShape types at left shape = Unit {0}
-
+-- the parts of a shape that is not too large are laid in time
 roomy_shape : (types : TypeTable) (at left : ℕ) (shape : TyShape) → AllByRecursion (IsType types) (node_in types shape).parts → is_within (extent_in (node_in types shape).tree (map (extent_of types) (node_in types shape).parts)) ≡ true
-    → (extent_in (node_in types shape).tree (map (extent_of types) (node_in types shape).parts)).levels ≤ left → at + (extent_in (node_in types shape).tree (map (extent_of types) (node_in types shape).parts)).size ≤ 1048576 → RoomyShape types at left shape
-unfolding RoomyShape
+    → (extent_in (node_in types shape).tree (map (extent_of types) (node_in types shape).parts)).levels ≤ left → at + (extent_in (node_in types shape).tree (map (extent_of types) (node_in types shape).parts)).size ≤ 1048576
+    → AreRoomy types at left 0 (side_by_side types (Some shape))
 roomy_shape types at left (Tuple parts) are within levels room = are_roomy types at left parts are within levels room
 roomy_shape types at left (Struct item) are within levels room = are_roomy types at left (node_in types (Struct item)).parts are within levels room
-roomy_shape types at left shape are within levels room = tt
+roomy_shape types at left shape are within levels room = record { types = tt; each = tt; levels = tt; room = omega arith }
 
-module _ (types : TypeTable) (at left : ℕ) (shape : TyShape) (are : AllByRecursion (IsType types) (node_in types shape).parts) (within : is_within (extent_in (node_in types shape).tree (map (extent_of types) (node_in types shape).parts)) ≡ true)
-    (levels : (extent_in (node_in types shape).tree (map (extent_of types) (node_in types shape).parts)).levels ≤ left) (room : at + (extent_in (node_in types shape).tree (map (extent_of types) (node_in types shape).parts)).size ≤ 1048576) where
-  pub roomy_tuple : (parts given : List Ty) → shape ≡ Tuple parts → given ≡ parts → AreRoomy types at left 0 given
-  unfolding RoomyShape
-  roomy_tuple parts given e f = subst (AreRoomy types at left 0) (sym f) (subst (RoomyShape types at left) e (roomy_shape types at left shape are within levels room))
-
-  pub roomy_struct : (item : ℕ) (fields : List Field) → shape ≡ Struct item → fields_at types item ≡ Some fields → AreRoomy types at left 0 (types_in fields)
-  unfolding RoomyShape
-  roomy_struct item fields e f = subst (λ (found : Option (List Field)). AreRoomy types at left 0 (types_of found)) f (subst (RoomyShape types at left) e (roomy_shape types at left shape are within levels room))
+pub roomy_parts : (types : TypeTable) (at left : ℕ) (ty : Ty) (shape : TyShape) → shape_at types ty ≡ Some shape → AllByRecursion (IsType types) (node_in types shape).parts
+    → is_within (extent_in (node_in types shape).tree (map (extent_of types) (node_in types shape).parts)) ≡ true
+    → (extent_in (node_in types shape).tree (map (extent_of types) (node_in types shape).parts)).levels ≤ left → at + (extent_in (node_in types shape).tree (map (extent_of types) (node_in types shape).parts)).size ≤ 1048576
+    → AreRoomy types at left 0 (side_by_side types (shape_at types ty))
+roomy_parts types at left ty shape e are within levels room = subst (λ (found : Option TyShape). AreRoomy types at left 0 (side_by_side types found)) (sym e) (roomy_shape types at left shape are within levels room)

@@ -1,8 +1,9 @@
 //! The bytes of a type that lie in cells.
-ghost use Rattle.std.specs.Prelude.{◌≡◌, ℕ, ◌≤◌, ◌<◌, ◌*◌, ◌+◌, true, length, map, replicate, IfOk, OnOk};
+ghost use Rattle.std.specs.Prelude.{◌≡◌, ℕ, ◌≤◌, ◌<◌, ◌*◌, ◌+◌, Some, true, length, map, replicate, IfOk, OnOk};
 ghost use Rattle.std.specs.List.{AllByRecursion};
-ghost use Rattle.tb_types.specs.Table.{IsType, named_in};
-ghost use Rattle.tb_types.specs.Folded.{node_in, types_in};
+ghost use Rattle.tb_types.specs.Table.{IsType, named_in, shape_at};
+ghost use Rattle.tb_types.specs.Folded.{node_in};
+ghost use Rattle.tb_types.specs.Pieces.{side_by_side};
 ghost use Rattle.tb_types.specs.Extent.{rounded, nothing, laid, extent_in, extent_of, is_within, fits};
 ghost use Rattle.tb_layout.specs.Cells.{copies, marks_together, marks_in, marks_of, ends_at, lengthened, with_range, with_marks, is_cell_byte, ranges_of, AreLongest};
 ghost use Rattle.tb_layout.specs.LaysOut.{AreRoomy};
@@ -11,7 +12,7 @@ ghost use Rattle.tb_perm.specs.Reborrow.{is_in_cells, AreCells};
 use crate::offsets::round_up;
 use std::alloc::{AllocError, Global};
 use tb_perm::CellRange;
-use tb_types::{Field, Ty, TyShape, Types};
+use tb_types::{Ty, TyShape, Types};
 
 /// No type that is not too large has more levels.
 pub const MOST_LEVELS: u32 = 1_024;
@@ -69,7 +70,7 @@ fn put_cells(
     if types.is_freeze(ty) {
         return Ok(());
     }
-    put_cells_of_shape(types, ranges, at, types.shape(ty), left)
+    put_cells_of_shape(types, ranges, at, ty, types.shape(ty), left)
 }
 
 /// Puts the bytes of a type of a shape that lie in cells.
@@ -78,9 +79,11 @@ fn put_cells_of_shape(
     types: &Types,
     ranges: &mut Vec<CellRange>,
     at: u32,
+    ty: Ty,
     shape: &TyShape,
     left: u32,
 ) -> Result<(), AllocError>
+    requires shape { shape_at types.now ty ≡ Some shape.now }
     requires named { AllByRecursion (IsType types.now) (named_in shape.now) }
     requires parts { AllByRecursion (IsType types.now) (node_in types.now shape.now).parts }
     requires layout { is_within (extent_in (node_in types.now shape.now).tree (map (extent_of types.now) (node_in types.now shape.now).parts)) ≡ true }
@@ -89,15 +92,8 @@ fn put_cells_of_shape(
     ensures { OnOk result (ranges.new.items ≡ with_marks ranges.old.items at (marks_in types.now (node_in types.now shape.now).tree (node_in types.now shape.now).parts (map (marks_of types.now) (node_in types.now shape.now).parts))) }
 {
     match shape {
-        TyShape::Tuple(parts) => put_cells_of_parts(types, ranges, at, parts.as_slice(), left),
+        TyShape::Tuple(_) | TyShape::Struct(_) => put_cells_of_parts(types, ranges, at, ty, left),
         TyShape::Array(part, n) => put_copies(types, ranges, at, *part, *n, left),
-        TyShape::Struct(item) => {
-            if types.defined(*item) {
-                put_cells_of_fields(types, ranges, at, types.fields(*item), left)
-            } else {
-                Ok(())
-            }
-        }
         TyShape::Cell(part) | TyShape::UnsafeCell(part) => put_cell(types, ranges, at, *part),
         _ => Ok(()),
     }
@@ -149,42 +145,25 @@ fn put_copies(
     Ok(())
 }
 
-/// Puts the bytes that lie in cells of parts that are laid one behind another.
+/// Puts the bytes that lie in cells of the parts of a tuple or of the fields of a struct.
 #[cycle(putting)]
 fn put_cells_of_parts(
     types: &Types,
     ranges: &mut Vec<CellRange>,
     at: u32,
-    parts: &[Ty],
+    ty: Ty,
     left: u32,
 ) -> Result<(), AllocError>
-    requires parts { AreRoomy types.now at left 0 parts.now }
-    ensures { OnOk result (ranges.new.items ≡ with_marks ranges.old.items at (marks_together types.now parts.now (map (marks_of types.now) parts.now))) }
+    requires parts { AreRoomy types.now at left 0 (side_by_side types.now (shape_at types.now ty)) }
+    ensures { OnOk result (ranges.new.items ≡ with_marks ranges.old.items at (marks_together types.now (side_by_side types.now (shape_at types.now ty)) (map (marks_of types.now) (side_by_side types.now (shape_at types.now ty))))) }
 {
     types.law_types();
     let mut end = 0;
-    for part in parts {
-        end = put_part(types, ranges, at, end, *part, left)?;
-    }
-    Ok(())
-}
-
-/// Puts the bytes of the fields of a struct that lie in cells.
-#[cycle(putting)]
-fn put_cells_of_fields(
-    types: &Types,
-    ranges: &mut Vec<CellRange>,
-    at: u32,
-    fields: &[Field],
-    left: u32,
-) -> Result<(), AllocError>
-    requires parts { AreRoomy types.now at left 0 (types_in fields.now) }
-    ensures { OnOk result (ranges.new.items ≡ with_marks ranges.old.items at (marks_together types.now (types_in fields.now) (map (marks_of types.now) (types_in fields.now)))) }
-{
-    types.law_types();
-    let mut end = 0;
-    for field in fields {
-        end = put_part(types, ranges, at, end, field.ty, left)?;
+    for place in 0..types.part_count(ty) {
+        let Some(part) = types.part(ty, place) else {
+            break;
+        };
+        end = put_part(types, ranges, at, end, part, left)?;
     }
     Ok(())
 }

@@ -1,16 +1,16 @@
 ghost use Rattle.std.specs.Prelude.{◌≡◌, ◌≤◌, ◌+◌, ◌++◌, ◌∷◌, [], map, true, false, IfOk, OnOk, IsErrOf};
 ghost use Rattle.std.specs.List.{AllByRecursion};
-ghost use Rattle.tb_types.specs.Table.{IsType};
-ghost use Rattle.tb_types.specs.Folded.{types_in, node_in};
-ghost use Rattle.tb_types.specs.Extent.{rounded, nothing, laid, extent_of, fits};
+ghost use Rattle.tb_types.specs.Table.{IsType, shape_at};
+ghost use Rattle.tb_types.specs.Pieces.{side_by_side};
+ghost use Rattle.tb_types.specs.Extent.{rounded, extent_of, fits};
 ghost use Rattle.tb_types.specs.Capped.{IsAlign};
-ghost use Rattle.tb_layout.specs.Layout.{places, offsets_in, layout_of};
-ghost use Rattle.tb_layout.specs.LaysOut.{LaysOut};
+ghost use Rattle.tb_layout.specs.Layout.{places, layout_of};
+ghost use Rattle.tb_layout.specs.LaysOut.{AreLaidOut};
 
 use crate::answer::{Layout, LayoutError};
 use sqlite_items::Items;
 use std::alloc::{AllocError, Global};
-use tb_types::{Field, Ty, TyShape, Types};
+use tb_types::{Ty, Types};
 
 /// The least multiple of an alignment that is not below a number.
 pub fn round_up(n: u32, align: u32) -> u32
@@ -38,57 +38,21 @@ fn place_part(types: &Types, offsets: &mut Vec<u32>, end: u32, part: Ty) -> Resu
     Ok(at + size)
 }
 
-/// The offsets of the parts of a tuple.
-fn offsets_of_parts(alloc: Global, types: &Types, parts: &[Ty]) -> Result<Items<u32>, AllocError>
-    requires types { AllByRecursion (IsType types.now) parts.now }
-    requires layouts { AllByRecursion (λ part. fits types.now part ≡ true) parts.now }
-    requires room { (laid nothing (map (extent_of types.now) parts.now)).end ≤ 1048576 }
-    ensures { IfOk result (λ offsets. offsets ≡ places 0 (map (extent_of types.now) parts.now)) }
+/// The offsets of the parts of a tuple and of the fields of a struct.
+fn offsets_of(alloc: Global, types: &Types, ty: Ty) -> Result<Items<u32>, AllocError>
+    requires types { AllByRecursion (IsType types.now) (side_by_side types.now (shape_at types.now ty)) }
+    requires layouts { AreLaidOut types.now (side_by_side types.now (shape_at types.now ty)) }
+    ensures { IfOk result (λ offsets. offsets ≡ places 0 (map (extent_of types.now) (side_by_side types.now (shape_at types.now ty)))) }
 {
     let mut offsets = Vec::new(alloc);
     let mut end = 0;
-    for part in parts {
-        end = place_part(types, &mut offsets, end, *part)?;
+    for place in 0..types.part_count(ty) {
+        let Some(part) = types.part(ty, place) else {
+            break;
+        };
+        end = place_part(types, &mut offsets, end, part)?;
     }
     Ok(Items::from_vec(offsets))
-}
-
-/// The offsets of the fields of a struct.
-fn offsets_of_fields(
-    alloc: Global,
-    types: &Types,
-    fields: &[Field],
-) -> Result<Items<u32>, AllocError>
-    requires types { AllByRecursion (IsType types.now) (types_in fields.now) }
-    requires layouts { AllByRecursion (λ part. fits types.now part ≡ true) (types_in fields.now) }
-    requires room { (laid nothing (map (extent_of types.now) (types_in fields.now))).end ≤ 1048576 }
-    ensures { IfOk result (λ offsets. offsets ≡ places 0 (map (extent_of types.now) (types_in fields.now))) }
-{
-    let mut offsets = Vec::new(alloc);
-    let mut end = 0;
-    for field in fields {
-        end = place_part(types, &mut offsets, end, field.ty)?;
-    }
-    Ok(Items::from_vec(offsets))
-}
-
-/// The offsets of the parts or fields of a type of a shape.
-fn offsets_of(alloc: Global, types: &Types, shape: &TyShape) -> Result<Items<u32>, AllocError>
-    requires types { AllByRecursion (IsType types.now) (node_in types.now shape.now).parts }
-    requires layouts { LaysOut types.now shape.now }
-    ensures { IfOk result (λ offsets. offsets ≡ offsets_in shape.now (map (extent_of types.now) (node_in types.now shape.now).parts)) }
-{
-    match shape {
-        TyShape::Tuple(parts) => offsets_of_parts(alloc, types, parts.as_slice()),
-        TyShape::Struct(item) => {
-            if types.defined(*item) {
-                offsets_of_fields(alloc, types, types.fields(*item))
-            } else {
-                Ok(Items::new(alloc))
-            }
-        }
-        _ => Ok(Items::new(alloc)),
-    }
 }
 
 /// The layout of a type, whose size is a multiple of its alignment. `[T]` by itself counts as an array of
@@ -104,7 +68,7 @@ pub fn layout(alloc: Global, types: &Types, ty: Ty) -> Result<Layout, LayoutErro
         return Err(LayoutError::TooLarge);
     }
     let (size, align) = types.size_align(ty);
-    let Ok(fields) = offsets_of(alloc, types, types.shape(ty)) else {
+    let Ok(fields) = offsets_of(alloc, types, ty) else {
         return Err(LayoutError::Memory);
     };
     Ok(Layout {

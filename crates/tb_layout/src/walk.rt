@@ -1,8 +1,9 @@
 //! The walk over the leaves of a type, which copies, validity and retags share.
-ghost use Rattle.std.specs.Prelude.{◌≡◌, ◌≤◌, ◌*◌, ◌+◌, ◌++◌, Bool, true, false, map, IfOk, OnOk};
+ghost use Rattle.std.specs.Prelude.{◌≡◌, ◌≤◌, ◌*◌, ◌+◌, ◌++◌, Bool, Some, true, false, map, IfOk, OnOk};
 ghost use Rattle.std.specs.List.{AllByRecursion};
-ghost use Rattle.tb_types.specs.Table.{IsType, named_in};
-ghost use Rattle.tb_types.specs.Folded.{node_in, types_in};
+ghost use Rattle.tb_types.specs.Table.{IsType, named_in, shape_at};
+ghost use Rattle.tb_types.specs.Folded.{node_in};
+ghost use Rattle.tb_types.specs.Pieces.{side_by_side};
 ghost use Rattle.tb_types.specs.Extent.{rounded, extent_in, extent_of, is_within, fits};
 ghost use Rattle.tb_layout.specs.LaysOut.{AreRoomy};
 ghost use Rattle.tb_layout.specs.Leaves.{moved, leaves_from, repeated_leaves, if_all, stands, leaf_if, leaves_in, leaves_of};
@@ -11,7 +12,7 @@ use crate::leaf::{Leaf, LeafShape};
 use crate::marks::MOST_LEVELS;
 use crate::offsets::round_up;
 use std::alloc::{AllocError, Global};
-use tb_types::{Field, Ty, TyShape, Types};
+use tb_types::{Ty, TyShape, Types};
 
 /// Whether a walk over all leaves, or else over those at which a retag stands, gives such a leaf.
 fn stands(all: bool, shape: LeafShape) -> bool
@@ -56,7 +57,7 @@ fn put_leaves(
     ensures { OnOk result (leaves.new.items ≡ leaves.old.items ++ moved at (leaves_of all types.now ty)) }
 {
     types.law_types();
-    put_leaves_of_shape(types, leaves, at, types.shape(ty), all, left)
+    put_leaves_of_shape(types, leaves, at, ty, types.shape(ty), all, left)
 }
 
 /// Puts the leaves of a type of a shape.
@@ -65,10 +66,12 @@ fn put_leaves_of_shape(
     types: &Types,
     leaves: &mut Vec<Leaf>,
     at: u32,
+    ty: Ty,
     shape: &TyShape,
     all: bool,
     left: u32,
 ) -> Result<(), AllocError>
+    requires shape { shape_at types.now ty ≡ Some shape.now }
     requires named { AllByRecursion (IsType types.now) (named_in shape.now) }
     requires parts { AllByRecursion (IsType types.now) (node_in types.now shape.now).parts }
     requires layout { is_within (extent_in (node_in types.now shape.now).tree (map (extent_of types.now) (node_in types.now shape.now).parts)) ≡ true }
@@ -81,22 +84,10 @@ fn put_leaves_of_shape(
         TyShape::Bool => put_leaf(leaves, at, LeafShape::Bool, all),
         TyShape::Char => put_leaf(leaves, at, LeafShape::Char, all),
         TyShape::Unit | TyShape::Slice(_) => Ok(()),
-        TyShape::Tuple(parts) => put_leaves_of_parts(
-            types,
-            leaves,
-            at,
-            parts.as_slice(),
-            all,
-            left,
+        TyShape::Tuple(_) | TyShape::Struct(_) => put_leaves_of_parts(
+            types, leaves, at, ty, all, left,
         ),
         TyShape::Array(part, n) => put_elements(types, leaves, at, *part, *n, all, left),
-        TyShape::Struct(item) => {
-            if types.defined(*item) {
-                put_leaves_of_fields(types, leaves, at, types.fields(*item), all, left)
-            } else {
-                Ok(())
-            }
-        }
         TyShape::Ref(mutable, to) => put_leaf(leaves, at, LeafShape::Ref(*mutable, *to), all),
         TyShape::Raw(mutable, to) => put_leaf(leaves, at, LeafShape::Raw(*mutable, *to), all),
         TyShape::Boxed(part) => put_leaf(leaves, at, LeafShape::Boxed(*part), all),
@@ -146,42 +137,25 @@ fn put_elements(
     Ok(())
 }
 
-/// Puts the leaves of parts that are laid one behind another.
+/// Puts the leaves of the parts of a tuple or of the fields of a struct.
 #[cycle(walking)]
 fn put_leaves_of_parts(
     types: &Types,
     leaves: &mut Vec<Leaf>,
     at: u32,
-    parts: &[Ty],
+    ty: Ty,
     all: bool,
     left: u32,
 ) -> Result<(), AllocError>
-    requires parts { AreRoomy types.now at left 0 parts.now }
-    ensures { OnOk result (leaves.new.items ≡ leaves.old.items ++ moved at (leaves_from types.now 0 parts.now (map (leaves_of all types.now) parts.now))) }
+    requires parts { AreRoomy types.now at left 0 (side_by_side types.now (shape_at types.now ty)) }
+    ensures { OnOk result (leaves.new.items ≡ leaves.old.items ++ moved at (leaves_from types.now 0 (side_by_side types.now (shape_at types.now ty)) (map (leaves_of all types.now) (side_by_side types.now (shape_at types.now ty))))) }
 {
     let mut end = 0;
-    for part in parts {
-        end = put_leaves_of_part(types, leaves, at, end, *part, all, left)?;
-    }
-    Ok(())
-}
-
-/// Puts the leaves of the fields of a struct.
-#[cycle(walking)]
-fn put_leaves_of_fields(
-    types: &Types,
-    leaves: &mut Vec<Leaf>,
-    at: u32,
-    fields: &[Field],
-    all: bool,
-    left: u32,
-) -> Result<(), AllocError>
-    requires parts { AreRoomy types.now at left 0 (types_in fields.now) }
-    ensures { OnOk result (leaves.new.items ≡ leaves.old.items ++ moved at (leaves_from types.now 0 (types_in fields.now) (map (leaves_of all types.now) (types_in fields.now)))) }
-{
-    let mut end = 0;
-    for field in fields {
-        end = put_leaves_of_part(types, leaves, at, end, field.ty, all, left)?;
+    for place in 0..types.part_count(ty) {
+        let Some(part) = types.part(ty, place) else {
+            break;
+        };
+        end = put_leaves_of_part(types, leaves, at, end, part, all, left)?;
     }
     Ok(())
 }

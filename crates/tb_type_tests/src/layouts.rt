@@ -341,6 +341,12 @@ fn types_have_leaves(rt: HostRuntime) {
             "{ty}"
         );
     }
+    // Elements of no size, as many as there may be.
+    assert_eq!(rt;
+        add(&mut types, TyShape::Array(Ty(6), 4_194_303)),
+        Some(Ty(9))
+    );
+    assert!(rt; has_leaves(rt.alloc(), &types, Ty(9), &[], &[]));
 }
 
 /// Gives a struct two fields of these types, where they may have them.

@@ -248,6 +248,8 @@ fn types_have_sizes_and_pieces(rt: HostRuntime) {
     let pair = add_pair(rt.alloc(), &mut types, Ty(0), Ty(2));
     assert_eq!(rt; pair, Some(Ty(14)));
     assert_eq!(rt; pieces(&types, Ty(14)), Some((true, None, Some(Ty(2)))));
+    assert_eq!(rt; types.part_count(Ty(14)), 2);
+    assert_eq!(rt; types.part_count(Ty(4)), 0);
     let pair = add_pair(rt.alloc(), &mut types, Ty(0), Ty(1));
     assert_eq!(rt; pair, Some(Ty(15)));
     assert_eq!(rt; pieces(&types, Ty(15)), Some((false, None, Some(Ty(1)))));

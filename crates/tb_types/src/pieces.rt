@@ -1,7 +1,7 @@
 ghost use Rattle.std.specs.Prelude.{◌≡◌, ◌≤◌, ◌^◌, [], length, slice_get};
-ghost use Rattle.tb_types.specs.Table.{fields_at};
+ghost use Rattle.tb_types.specs.Table.{fields_at, shape_at};
 ghost use Rattle.tb_types.specs.Folded.{types_of};
-ghost use Rattle.tb_types.specs.Pieces.{content, part, find};
+ghost use Rattle.tb_types.specs.Pieces.{content, side_by_side, part, find};
 ghost use Rattle.tb_types.specs.Kept.{table_of};
 
 use crate::item::Item;
@@ -23,6 +23,30 @@ pub fn content(shapes: &[TyShape], ty: Ty) -> Option<Ty>
             | TyShape::Slice(part),
         ) => Some(*part),
         _ => None,
+    }
+}
+
+/// How many parts a tuple and how many fields a struct has.
+pub fn part_count(shapes: &[TyShape], items: &[Item], ty: Ty) -> usize
+    ensures { result ≡ length (side_by_side (table_of shapes.now items.now) (shape_at (table_of shapes.now items.now) ty)) }
+{
+    match shapes.get(ty.0 as usize) {
+        Some(TyShape::Tuple(parts)) => parts.as_slice().len(),
+        Some(TyShape::Struct(item)) => field_count(items, *item),
+        _ => 0,
+    }
+}
+
+/// How many fields a struct has that may be declared.
+fn field_count(items: &[Item], item: u32) -> usize
+    ensures { result ≡ length (types_of (fields_at (table_of [] items.now) item)) }
+{
+    let Some(item) = items.get(item as usize) else {
+        return 0;
+    };
+    match &item.fields {
+        Some(fields) => fields.len(),
+        None => 0,
     }
 }
 

@@ -8,7 +8,7 @@ ghost use Rattle.tb_types.specs.Folded.{node_of};
 ghost use Rattle.tb_types.specs.Facts.{facts_by, facts_of, is_copy, is_freeze, holds_retag, owns_box, is_complete, is_sized};
 ghost use Rattle.tb_types.specs.Extent.{extent_by, extent_of, fits};
 ghost use Rattle.tb_types.specs.Capped.{capped, IsAlign};
-ghost use Rattle.tb_types.specs.Pieces.{content, part, find};
+ghost use Rattle.tb_types.specs.Pieces.{content, side_by_side, part, find};
 ghost use Rattle.tb_types.specs.Heads.{has_head, is_sized_type};
 ghost use Rattle.tb_types.specs.Sound.{IsField, AreTypes};
 
@@ -19,7 +19,7 @@ use crate::head::{fits_head, head_of};
 use crate::item::{Field, Item};
 use crate::known::Known;
 use crate::name::Name;
-use crate::pieces::{content, find, part};
+use crate::pieces::{content, find, part, part_count};
 use crate::shape::{Ty, TyShape};
 use crate::tables::{add_item, define_in, intern_in};
 use indexmap::IndexSet;
@@ -257,6 +257,13 @@ impl Types {
         ensures { result ≡ content self.now ty }
     {
         content(self.shapes.as_slice(), ty)
+    }
+
+    /// How many parts a tuple and how many fields a struct has; 0 for other types and before a struct is defined.
+    pub fn part_count(&self, ty: Ty) -> usize
+        ensures { result ≡ length (side_by_side self.now (shape_at self.now ty)) }
+    {
+        part_count(self.shapes.as_slice(), &self.items, ty)
     }
 
     /// The type of a part of a tuple or of a field of a struct, by its place.

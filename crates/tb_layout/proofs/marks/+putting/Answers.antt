@@ -1,10 +1,11 @@
 use Rattle.std.proofs.Common.{rules, ◌≡◌, refl, sym, ◌∙◌, ap, subst, ◌+◌, ◌≤◌, true, List, Bool, drop, arith}
 use Rattle.std.proofs.lemmas.List.{drop_all}
 use Rattle.tb_types.specs.declared.extent.Extent.{Extent}
-use Rattle.tb_types.specs.Folded.{types_in}
+use Rattle.tb_types.specs.Table.{shape_at}
+use Rattle.tb_types.specs.Pieces.{side_by_side}
 use Rattle.tb_types.specs.Extent.{is_within}
 use Rattle.tb_layout.specs.Cells.{marks_of, with_marks}
-use Rattle.tb_layout.proofs.Placing.{extent_is, named_types, own_parts, drop_is, fields_is, roomy_step, roomy_tuple, roomy_struct}
+use Rattle.tb_layout.proofs.Placing.{extent_is, named_types, own_parts, part_is, no_part, roomy_step, roomy_parts}
 use Rattle.tb_layout.proofs.Marking.{marks_is, free_marks, length_marks, with_unmarked, on_ok, part_step, parts_end, tail_step, copies_step, no_copies, next_step}
 use Rattle.tb_layout.proofs.marks.+putting.Goals as goal
 
@@ -16,14 +17,17 @@ pub put_cells-put_cells_of_shape-requires : goal.put_cells-put_cells_of_shape-re
 put_cells-put_cells_of_shape-requires t c = (
   search rules,
   (
-    named_types c.args.types.now c.law_types.ensures.types c.args.ty c.shape.result.now c.requires.ty c.shape.ensures,
+    c.shape.ensures,
     (
-      own_parts c.args.types.now c.law_types.ensures.types c.args.ty c.shape.result.now c.requires.ty c.shape.ensures,
+      named_types c.args.types.now c.law_types.ensures.types c.args.ty c.shape.result.now c.requires.ty c.shape.ensures,
       (
-        subst (λ (extent : Extent). is_within extent ≡ true) (extent_is c.args.types.now c.law_types.ensures.types c.args.ty c.shape.result.now c.requires.ty c.shape.ensures) c.requires.layout,
+        own_parts c.args.types.now c.law_types.ensures.types c.args.ty c.shape.result.now c.requires.ty c.shape.ensures,
         (
-          subst (λ (extent : Extent). extent.levels ≤ c.args.left) (extent_is c.args.types.now c.law_types.ensures.types c.args.ty c.shape.result.now c.requires.ty c.shape.ensures) c.requires.left,
-          subst (λ (extent : Extent). c.args.at + extent.size ≤ 1048576) (extent_is c.args.types.now c.law_types.ensures.types c.args.ty c.shape.result.now c.requires.ty c.shape.ensures) c.requires.room,
+          subst (λ (extent : Extent). is_within extent ≡ true) (extent_is c.args.types.now c.law_types.ensures.types c.args.ty c.shape.result.now c.requires.ty c.shape.ensures) c.requires.layout,
+          (
+            subst (λ (extent : Extent). extent.levels ≤ c.args.left) (extent_is c.args.types.now c.law_types.ensures.types c.args.ty c.shape.result.now c.requires.ty c.shape.ensures) c.requires.left,
+            subst (λ (extent : Extent). c.args.at + extent.size ≤ 1048576) (extent_is c.args.types.now c.law_types.ensures.types c.args.ty c.shape.result.now c.requires.ty c.shape.ensures) c.requires.room,
+          ),
         ),
       ),
     ),
@@ -36,54 +40,34 @@ put_cells-returns t c =
 
 pub put_cells_of_parts-put_part-requires : goal.put_cells_of_parts-put_part-requires
 put_cells_of_parts-put_part-requires t c =
-    let is = drop_is c.args.parts.now c.loop-part.part-index (record { 0 = 0 }) c.loop-part-test.true in
-    let roomy = roomy_step c.args.types.now c.args.at c.args.left c.loop-part.end _ _ _ is c.loop-part.invariant.rest in
+    let roomy = roomy_step c.args.types.now c.args.at c.args.left c.loop-place.end _ _ _ (part_is c.args.types.now c.args.ty c.loop-place.place c.part.result c.in-Some.part c.part.ensures c.in-Some.is) c.loop-place.invariant.rest in
     (search rules, (roomy.ty, (roomy.fits_limits, (roomy.levels, (roomy.end_small, roomy.room)))))
 
-pub put_cells_of_parts-loop-part-preserved : goal.put_cells_of_parts-loop-part-preserved
-put_cells_of_parts-loop-part-preserved t c =
-    let is = drop_is c.args.parts.now c.loop-part.part-index (record { 0 = 0 }) c.loop-part-test.true in
-    let roomy = roomy_step c.args.types.now c.args.at c.args.left c.loop-part.end _ _ _ is c.loop-part.invariant.rest in
+pub put_cells_of_parts-loop-place-preserved : goal.put_cells_of_parts-loop-place-preserved
+put_cells_of_parts-loop-place-preserved t c =
+    let is = part_is c.args.types.now c.args.ty c.loop-place.place c.part.result c.in-Some.part c.part.ensures c.in-Some.is in
+    let roomy = roomy_step c.args.types.now c.args.at c.args.left c.loop-place.end _ _ _ is c.loop-place.invariant.rest in
     record {
       rest = roomy.rest c.in_ok-end.end c.in_ok-end.ensures.end;
-      cells = part_step c.args.types.now c.law_types.ensures.types c.args.at c.loop-part.end c.in_ok-end.end _ _ _ is roomy.ty c.in_ok-end.ensures.end c.loop-part.ranges.items c.put_part.new.ranges.items _ c.in_ok-end.ensures.cells c.loop-part.invariant.cells;
+      cells = part_step c.args.types.now c.law_types.ensures.types c.args.at c.loop-place.end c.in_ok-end.end _ _ _ is roomy.ty c.in_ok-end.ensures.end c.loop-place.ranges.items c.put_part.new.ranges.items _ c.in_ok-end.ensures.cells c.loop-place.invariant.cells;
     }
 
-pub put_cells_of_parts-returns : goal.put_cells_of_parts-returns
-put_cells_of_parts-returns t c =
-    tail_step c.args.types.now c.args.parts.now c.args.at c.args.ranges.now.items c.loop-part.ranges.items
-    (parts_end c.args.types.now (drop c.loop-part.part-index c.args.parts.now) c.args.at c.loop-part.end c.loop-part.ranges.items _ (drop_all c.loop-part.part-index c.args.parts.now (omega arith)) c.loop-part.invariant.cells)
+pub put_cells_of_parts-returns-after-loop-place : goal.put_cells_of_parts-returns-after-loop-place
+put_cells_of_parts-returns-after-loop-place t c =
+    tail_step c.args.types.now (side_by_side c.args.types.now (shape_at c.args.types.now c.args.ty)) c.args.at c.args.ranges.now.items c.loop-place.ranges.items
+    (parts_end c.args.types.now (drop c.loop-place.place (side_by_side c.args.types.now (shape_at c.args.types.now c.args.ty))) c.args.at c.loop-place.end c.loop-place.ranges.items _
+    (drop_all c.loop-place.place (side_by_side c.args.types.now (shape_at c.args.types.now c.args.ty)) (let n = c.loop-place-test.false in let e = c.part_count-place-end.ensures in omega arith)) c.loop-place.invariant.cells)
 
-pub put_cells_of_fields-put_part-requires : goal.put_cells_of_fields-put_part-requires
-put_cells_of_fields-put_part-requires t c =
-    let is = fields_is c.args.fields.now c.loop-field.field-index c.field-item.result c.loop-field-test.true c.field-item.is in
-    let roomy = roomy_step c.args.types.now c.args.at c.args.left c.loop-field.end _ _ _ is c.loop-field.invariant.rest in
-    (search rules, (roomy.ty, (roomy.fits_limits, (roomy.levels, (roomy.end_small, roomy.room)))))
-
-pub put_cells_of_fields-loop-field-preserved : goal.put_cells_of_fields-loop-field-preserved
-put_cells_of_fields-loop-field-preserved t c =
-    let is = fields_is c.args.fields.now c.loop-field.field-index c.field-item.result c.loop-field-test.true c.field-item.is in
-    let roomy = roomy_step c.args.types.now c.args.at c.args.left c.loop-field.end _ _ _ is c.loop-field.invariant.rest in
-    record {
-      rest = roomy.rest c.in_ok-end.end c.in_ok-end.ensures.end;
-      cells = part_step c.args.types.now c.law_types.ensures.types c.args.at c.loop-field.end c.in_ok-end.end _ _ _ is roomy.ty c.in_ok-end.ensures.end c.loop-field.ranges.items c.put_part.new.ranges.items _ c.in_ok-end.ensures.cells c.loop-field.invariant.cells;
-    }
-
-pub put_cells_of_fields-returns : goal.put_cells_of_fields-returns
-put_cells_of_fields-returns t c =
-    tail_step c.args.types.now (types_in c.args.fields.now) c.args.at c.args.ranges.now.items c.loop-field.ranges.items
-    (parts_end c.args.types.now (types_in (drop c.loop-field.field-index c.args.fields.now)) c.args.at c.loop-field.end c.loop-field.ranges.items _ (ap types_in (drop_all c.loop-field.field-index c.args.fields.now (omega arith))) c.loop-field.invariant.cells)
+pub put_cells_of_parts-returns-in_default : goal.put_cells_of_parts-returns-in_default
+put_cells_of_parts-returns-in_default t c =
+    tail_step c.args.types.now (side_by_side c.args.types.now (shape_at c.args.types.now c.args.ty)) c.args.at c.args.ranges.now.items c.loop-place.ranges.items
+    (parts_end c.args.types.now (drop c.loop-place.place (side_by_side c.args.types.now (shape_at c.args.types.now c.args.ty))) c.args.at c.loop-place.end c.loop-place.ranges.items _
+    (no_part c.args.types.now c.args.ty c.loop-place.place c.part.result c.part.ensures c.in_default.not-Some) c.loop-place.invariant.cells)
 
 pub put_cells_of_shape-put_cells_of_parts-requires : goal.put_cells_of_shape-put_cells_of_parts-requires
 put_cells_of_shape-put_cells_of_parts-requires t c = (
   search rules,
-  roomy_tuple c.args.types.now c.args.at c.args.left c.args.shape.now c.requires.parts c.requires.layout c.requires.left c.requires.room c.in-Tuple.parts c.as_slice.result.now c.in-Tuple.is c.as_slice.ensures,
-)
-
-pub put_cells_of_shape-put_cells_of_fields-requires : goal.put_cells_of_shape-put_cells_of_fields-requires
-put_cells_of_shape-put_cells_of_fields-requires t c = (
-  search rules,
-  roomy_struct c.args.types.now c.args.at c.args.left c.args.shape.now c.requires.parts c.requires.layout c.requires.left c.requires.room c.in-Struct.item c.fields.result.now c.in-Struct.is c.fields.ensures,
+  roomy_parts c.args.types.now c.args.at c.args.left c.args.ty c.args.shape.now c.requires.shape c.requires.parts c.requires.layout c.requires.left c.requires.room,
 )
 
 pub put_copies-returns-then-size-eq0 : goal.put_copies-returns-then-size-eq0

@@ -1,5 +1,6 @@
 use Rattle.std.proofs.Common.{◌≡◌, ◌+◌, ◌-◌, ◌*◌, ◌++◌, map, drop}
-use Rattle.tb_types.specs.Folded.{types_in}
+use Rattle.tb_types.specs.Table.{shape_at}
+use Rattle.tb_types.specs.Pieces.{side_by_side}
 use Rattle.tb_layout.specs.LaysOut.{AreRoomy}
 use Rattle.tb_layout.specs.Leaves.{moved, leaves_from, repeated_leaves, leaves_of}
 use Rattle.tb_layout.proofs.walk.+walking.Given as goal
@@ -16,9 +17,6 @@ decreases-put_elements l = 4 * l.left + 1
 abbrev pub decreases-put_leaves_of_parts : goal.decreases-put_leaves_of_parts
 decreases-put_leaves_of_parts l = 4 * l.left + 1
 
-abbrev pub decreases-put_leaves_of_fields : goal.decreases-put_leaves_of_fields
-decreases-put_leaves_of_fields l = 4 * l.left + 1
-
 abbrev pub decreases-put_leaves_of_part : goal.decreases-put_leaves_of_part
 decreases-put_leaves_of_part l = 4 * l.left
 
@@ -28,16 +26,9 @@ invariant-put_elements-loop l = record {
   leaves : l.leaves.items ++ moved l.next (repeated_leaves (l.n - l.counter) l.size (leaves_of l.all l.types l.part)) ≡ l.fn.leaves.items ++ moved l.at (repeated_leaves l.n l.size (leaves_of l.all l.types l.part));
 }
 
-abbrev pub invariant-put_leaves_of_parts-loop-part : goal.invariant-put_leaves_of_parts-loop-part
-invariant-put_leaves_of_parts-loop-part l = record {
-  rest : AreRoomy l.types l.at l.left l.end (drop l.part-index l.parts);
-  leaves : l.leaves.items ++ moved l.at (leaves_from l.types l.end (drop l.part-index l.parts) (map (leaves_of l.all l.types) (drop l.part-index l.parts)))
-      ≡ l.fn.leaves.items ++ moved l.at (leaves_from l.types 0 l.parts (map (leaves_of l.all l.types) l.parts));
-}
-
-abbrev pub invariant-put_leaves_of_fields-loop-field : goal.invariant-put_leaves_of_fields-loop-field
-invariant-put_leaves_of_fields-loop-field l = record {
-  rest : AreRoomy l.types l.at l.left l.end (types_in (drop l.field-index l.fields));
-  leaves : l.leaves.items ++ moved l.at (leaves_from l.types l.end (types_in (drop l.field-index l.fields)) (map (leaves_of l.all l.types) (types_in (drop l.field-index l.fields))))
-      ≡ l.fn.leaves.items ++ moved l.at (leaves_from l.types 0 (types_in l.fields) (map (leaves_of l.all l.types) (types_in l.fields)));
+abbrev pub invariant-put_leaves_of_parts-loop-place : goal.invariant-put_leaves_of_parts-loop-place
+invariant-put_leaves_of_parts-loop-place l = record {
+  rest : AreRoomy l.types l.at l.left l.end (drop l.place (side_by_side l.types (shape_at l.types l.ty)));
+  leaves : l.leaves.items ++ moved l.at (leaves_from l.types l.end (drop l.place (side_by_side l.types (shape_at l.types l.ty))) (map (leaves_of l.all l.types) (drop l.place (side_by_side l.types (shape_at l.types l.ty)))))
+      ≡ l.fn.leaves.items ++ moved l.at (leaves_from l.types 0 (side_by_side l.types (shape_at l.types l.ty)) (map (leaves_of l.all l.types) (side_by_side l.types (shape_at l.types l.ty))));
 }
