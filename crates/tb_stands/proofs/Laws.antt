@@ -1,0 +1,60 @@
+-- The events on own rows that stand for all rows.
+use Rattle.std.proofs.Common.{◌≡◌, ◌∙◌, ℕ, Bool, true, false, List, [], ◌∷◌, refl, ap, sym, subst, Option, Some, None}
+use Rattle.std.specs.List.{AllByRecursion}
+use Rattle.std.specs.Option.{option_or}
+use Rattle.tb_perm.specs.declared.perm.Kind.{Kind}
+use Rattle.tb_perm.specs.declared.perm.Kind.TheVariants.{Write}
+use Rattle.tb_perm.specs.declared.report.Access.TheVariants.{Free as OfFree, CallEnd as OfCallEnd}
+use Rattle.tb_perm.specs.declared.report.Report.{Report}
+use Rattle.tb_perm.specs.Rows.{Row, HasTag, unguarded}
+use Rattle.tb_perm.specs.Event.{Event, after, refusal_at}
+use Rattle.tb_perm.specs.Access.{access_event, access_of, accessed, access_report}
+use Rattle.tb_perm.specs.Release.{release_event, released, release_report}
+use Rattle.tb_perm.proofs.Kept.{HasTag-after, HasTag-unguarded}
+use Rattle.tb_stands.specs.Restricted.{restricted}
+use Rattle.tb_stands.specs.Stands.{StandsBy, Stands}
+use Rattle.tb_stands.proofs.Ways.{own_keeps, own_has}
+use Rattle.tb_stands.proofs.AnyEvent.{event_report, event_stands}
+use Rattle.tb_stands.proofs.Seen.{access_seen, release_seen}
+use Rattle.tb_stands.proofs.Unguards.{unguard_stands}
+
+All_map : (P Q : ℕ → Type 0) → ((t : ℕ) → P t → Q t) → (xs : List ℕ) → AllByRecursion P xs → AllByRecursion Q xs
+All_map P Q f [] all = tt
+All_map P Q f (x ∷ xs) all = (f x all.0, All_map P Q f xs all.1)
+
+-- what is to be shown of own rows, shown of the kept part of all
+of_kept : (kept : ℕ → Bool) (size : ℕ) (own rows : List Row) → StandsBy kept size own rows → (P : List Row → Type 0) → (StandsBy kept size (restricted kept rows) rows → P (restricted kept rows)) → P own
+of_kept kept size own rows stands P show = subst P (sym stands.are) (show (subst (λ o. StandsBy kept size o rows) stands.are stands))
+
+pub access_same : (size : ℕ) (own rows : List Row) (reached : List ℕ) (t lo hi : ℕ) (kind : Kind) → Stands size own rows reached → HasTag own t → access_report own size t lo hi kind ≡ access_report rows size t lo hi kind
+access_same size own rows reached t lo hi kind stands =
+    of_kept stands.0 size own rows stands.1 (λ o. HasTag o t → access_report o size t lo hi kind ≡ access_report rows size t lo hi kind)
+    (λ s has. event_report stands.0 size rows s (access_event t lo hi kind) (access_event t lo hi kind) (access_seen stands.0 rows t lo hi kind (own_has stands.0 rows t has) (own_keeps stands.0 rows t has)) (access_of kind))
+
+pub access_stands : (size : ℕ) (own rows : List Row) (reached : List ℕ) (t lo hi : ℕ) (kind : Kind) → Stands size own rows reached → HasTag own t → access_report own size t lo hi kind ≡ None → Stands size (accessed own t lo hi kind) (accessed rows t lo hi kind) reached
+access_stands size own rows reached t lo hi kind stands has none = (
+  stands.0,
+  of_kept stands.0 size own rows stands.1 (λ o. HasTag o t → StandsBy stands.0 size (accessed o t lo hi kind) (accessed rows t lo hi kind))
+  (λ s has. event_stands stands.0 size rows s (access_event t lo hi kind) (access_event t lo hi kind) (access_seen stands.0 rows t lo hi kind (own_has stands.0 rows t has) (own_keeps stands.0 rows t has)) (access_of kind) (sym (access_same size own rows reached t lo hi kind stands (subst (λ o. HasTag o t) (sym stands.1.are) has)) ∙ none)) has,
+  All_map (HasTag own) (HasTag (accessed own t lo hi kind)) (λ u. HasTag-after (access_event t lo hi kind) own u) reached stands.2,
+)
+
+pub release_same : (size : ℕ) (own rows : List Row) (reached : List ℕ) (t : ℕ) → Stands size own rows reached → HasTag own t → release_report own size t ≡ release_report rows size t
+release_same size own rows reached t stands =
+    of_kept stands.0 size own rows stands.1 (λ o. HasTag o t → release_report o size t ≡ release_report rows size t)
+    (λ s has. event_report stands.0 size rows s (release_event (restricted stands.0 rows) t) (release_event rows t) (release_seen stands.0 size rows t s.sound (own_has stands.0 rows t has) (own_keeps stands.0 rows t has)) OfCallEnd)
+
+pub release_stands : (size : ℕ) (own rows : List Row) (reached : List ℕ) (t : ℕ) → Stands size own rows reached → HasTag own t → release_report own size t ≡ None → Stands size (released own t) (released rows t) reached
+release_stands size own rows reached t stands has none = (
+  stands.0,
+  of_kept stands.0 size own rows stands.1 (λ o. HasTag o t → StandsBy stands.0 size (released o t) (released rows t))
+  (λ s has. event_stands stands.0 size rows s (release_event (restricted stands.0 rows) t) (release_event rows t) (release_seen stands.0 size rows t s.sound (own_has stands.0 rows t has) (own_keeps stands.0 rows t has)) OfCallEnd (sym (release_same size own rows reached t stands (subst (λ o. HasTag o t) (sym stands.1.are) has)) ∙ none)) has,
+  All_map (HasTag own) (HasTag (released own t)) (λ u. HasTag-after (release_event own t) own u) reached stands.2,
+)
+
+pub unguarded_stands : (size : ℕ) (own rows : List Row) (reached : List ℕ) (t : ℕ) → Stands size own rows reached → Stands size (unguarded own t) (unguarded rows t) reached
+unguarded_stands size own rows reached t stands = (
+  stands.0,
+  of_kept stands.0 size own rows stands.1 (λ o. StandsBy stands.0 size (unguarded o t) (unguarded rows t)) (λ s. unguard_stands stands.0 size rows t s),
+  All_map (HasTag own) (HasTag (unguarded own t)) (λ u. HasTag-unguarded own t u) reached stands.2,
+)

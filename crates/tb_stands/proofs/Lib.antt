@@ -1,0 +1,9 @@
+pub mod Lists
+pub mod Ways
+pub mod Reports
+pub mod Table
+pub mod Below
+pub mod AnyEvent
+pub mod Seen
+pub mod Unguards
+pub mod Laws
