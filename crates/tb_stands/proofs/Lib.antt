@@ -7,3 +7,5 @@ pub mod AnyEvent
 pub mod Seen
 pub mod Unguards
 pub mod Laws
+pub mod Frees
+pub mod Made

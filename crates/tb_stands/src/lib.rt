@@ -3,4 +3,4 @@
 
 mod events;
 
-pub use events::law_access;
+pub use events::{law_access, law_dealloc, law_reborrow, law_release, law_unguard};
