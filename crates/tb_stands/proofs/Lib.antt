@@ -9,3 +9,6 @@ pub mod Unguards
 pub mod Laws
 pub mod Frees
 pub mod Made
+pub mod Folds
+pub mod One
+pub mod FoldLaws

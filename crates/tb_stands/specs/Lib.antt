@@ -1,2 +1,3 @@
 pub mod Restricted
 pub mod Stands
+pub mod Folded

@@ -2,5 +2,7 @@
 #![tactic(auto)]
 
 mod events;
+mod folding;
 
 pub use events::{law_access, law_dealloc, law_reborrow, law_release, law_unguard};
+pub use folding::law_folded;
