@@ -12,3 +12,4 @@ pub mod Made
 pub mod Folds
 pub mod One
 pub mod FoldLaws
+pub mod Start

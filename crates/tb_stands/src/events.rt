@@ -1,12 +1,19 @@
 ghost use Rattle.std.specs.Prelude.{◌≡◌, ℕ, ◌<◌, List, ◌∷◌, None, All};
+ghost use Rattle.std.specs.List.{AllByRecursion};
 ghost use Rattle.tb_perm.specs.declared.perm.Kind.{Kind};
 ghost use Rattle.tb_perm.specs.declared.new_tag.NewTag.{NewTag};
-ghost use Rattle.tb_perm.specs.Rows.{Row, HasTag, unguarded};
+ghost use Rattle.tb_perm.specs.Rows.{Row, HasTag, IsRows, unguarded};
 ghost use Rattle.tb_perm.specs.Access.{accessed, access_report};
 ghost use Rattle.tb_perm.specs.Reborrow.{reborrowed, reborrow_report};
 ghost use Rattle.tb_perm.specs.Release.{released, release_report};
 ghost use Rattle.tb_perm.specs.Deallocation.{deallocated, dealloc_report};
 ghost use Rattle.tb_stands.specs.Stands.{Stands};
+
+/// All rows stand for themselves, and any own tags may count as the reached ones.
+pub fn law_start()
+    ensures start { (size : ℕ) (rows : List Row) (reached : List ℕ) → IsRows size rows → AllByRecursion (HasTag rows) reached → Stands size rows rows reached }
+    ensures reached { (size : ℕ) (own rows : List Row) (reached now : List ℕ) → Stands size own rows reached → AllByRecursion (HasTag own) now → Stands size own rows now }
+{}
 
 /// An access through an own tag has the same report on own rows as on the rows that they stand for. Where no
 /// tag refuses it, they stand for these again.
