@@ -1,0 +1,3 @@
+pub mod Children
+pub mod Rounds
+pub mod Turns

@@ -1,2 +1,3 @@
 pub mod Guards
 pub mod Visits
+pub mod Rounds

@@ -1,8 +1,8 @@
-ghost use Rattle.std.specs.Prelude.{◌≡◌, IsSome, IsTrue, false};
+ghost use Rattle.std.specs.Prelude.{◌≡◌, ◌↔◌, IsSome, IsTrue, false};
 ghost use Rattle.tb_perm.specs.Rows.{HasTag, guard_in};
 ghost use Rattle.tb_perm.specs.Table.{is_guarded};
 ghost use Rattle.tb_perm.specs.Calls.{IsTree};
-ghost use Rattle.tb_perm.specs.Pruning.{parent_in};
+ghost use Rattle.tb_perm.specs.Pruning.{parent_in, Folds};
 ghost use Rattle.tb_prune.specs.Guards.{GuardsAre};
 ghost use Rattle.tb_prune.specs.Visits.{is_busy, MayGo, Visits};
 
@@ -61,8 +61,25 @@ fn may_go<T: PruneTree>(tree: &T, tag: Tag, alloc: AllocId, protectors: &Protect
     if tree.is_leaf(tag) {
         return true;
     }
-    match tree.only_child(tag) {
-        Some(child) => tree.folds(tag, child, guarded(tree, child, alloc, protectors)),
-        None => false,
-    }
+    let Some(child) = tree.only_child(tag) else {
+        return false;
+    };
+    covers(tree, tag, child, alloc, protectors)
+}
+
+/// Whether a tag's child covers it, with the guard that the child has.
+fn covers<T: PruneTree>(
+    tree: &T,
+    tag: Tag,
+    child: Tag,
+    alloc: AllocId,
+    protectors: &Protectors,
+) -> bool
+    requires tag { HasTag (T.rows tree.now) tag.0 }
+    requires child { HasTag (T.rows tree.now) child.0 }
+    requires guards { GuardsAre protectors.now alloc (T.rows tree.now) }
+    ensures { IsTrue result ↔ Folds (T.rows tree.now) (T.extent tree.now) tag.0 child.0 (is_guarded (guard_in (T.rows tree.now) child.0)) }
+{
+    let held = guarded(tree, child, alloc, protectors);
+    tree.folds(tag, child, held)
 }
