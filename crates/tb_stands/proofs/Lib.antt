@@ -13,3 +13,4 @@ pub mod Folds
 pub mod One
 pub mod FoldLaws
 pub mod Start
+pub mod Ends

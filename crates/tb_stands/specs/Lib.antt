@@ -1,3 +1,4 @@
 pub mod Restricted
 pub mod Stands
 pub mod Folded
+pub mod Allocs

@@ -7,7 +7,10 @@ ghost use Rattle.tb_perm.specs.Access.{accessed, access_report};
 ghost use Rattle.tb_perm.specs.Reborrow.{reborrowed, reborrow_report};
 ghost use Rattle.tb_perm.specs.Release.{released, release_report};
 ghost use Rattle.tb_perm.specs.Deallocation.{deallocated, dealloc_report};
+ghost use Rattle.tb_perm.specs.declared.tag.Prov.{Prov};
+ghost use Rattle.tb_perm.specs.CallEnd.{AllocRows, call_end};
 ghost use Rattle.tb_stands.specs.Stands.{Stands};
+ghost use Rattle.tb_stands.specs.Allocs.{StandAll, AreNumbered, IsKnown, EndsAlike};
 
 /// All rows stand for themselves, and any own tags may count as the reached ones.
 pub fn law_start()
@@ -43,4 +46,10 @@ pub fn law_unguard()
 pub fn law_dealloc()
     ensures report { (size : ℕ) (own rows : List Row) (reached : List ℕ) (t : ℕ) → Stands size own rows reached → HasTag own t → dealloc_report own size t ≡ dealloc_report rows size t }
     ensures stands { (size : ℕ) (own rows : List Row) (reached : List ℕ) (t : ℕ) → Stands size own rows reached → HasTag own t → dealloc_report own size t ≡ None → Stands size (deallocated own size t) (deallocated rows size t) reached }
+{}
+
+/// The end of a call is the same on own rows and on eager rows of all allocations: the same tag refuses with
+/// the same report, or none does; and what is left stands again.
+pub fn law_ended()
+    ensures { (reached ps : List Prov) (owns eagers : List AllocRows) → StandAll reached owns eagers → AreNumbered owns → AllByRecursion (IsKnown owns) ps → EndsAlike reached (call_end ps owns) (call_end ps eagers) }
 {}

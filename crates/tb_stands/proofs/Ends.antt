@@ -1,0 +1,194 @@
+-- The end of a call on own rows and on eager rows.
+use Rattle.std.proofs.Common.{◌≡◌, ◌∙◌, ◌≢◌, ◌&&◌, ℕ, Bool, true, false, cond, List, [], ◌∷◌, map, refl, ap, sym, subst, Option, Some, None, find, ◌==◌}
+use Rattle.std.specs.List.{AllByRecursion}
+use Rattle.std.proofs.lemmas.Bool.{eqb-true, ne_eqb, and_parts}
+use Rattle.tb_perm.specs.declared.tag.Prov.{Prov}
+use Rattle.tb_perm.specs.declared.report.Report.{Report}
+use Rattle.tb_perm.specs.Rows.{Row, HasTag, unguarded}
+use Rattle.tb_perm.specs.Release.{release_event, released, release_report}
+use Rattle.tb_perm.specs.CallEnd.{AllocRows, is_live, with_rows, Ended, Ends, Refuses, and_then, unless_refused, release_in, release_one, release_all, unguard_one, unguard_all, call_end}
+use Rattle.tb_perm.proofs.Kept.{HasTag-after}
+use Rattle.tb_stands.specs.Stands.{Stands}
+use Rattle.tb_stands.specs.Allocs.{reached_in, StandsAt, StandAll, AreNumbered, IsKnown, EndsAlike}
+use Rattle.tb_stands.proofs.Laws.{release_same, release_stands, unguarded_stands}
+
+-- one allocation is changed
+abbrev changed : Bool → (List Row → List Row) → AllocRows → AllocRows
+changed b f alloc = cond b (record alloc { rows = f alloc.rows }) alloc
+
+-- what holds of all allocations holds of the one that is found
+found_alloc : (P : AllocRows → Type 0) (q : AllocRows → Bool) (allocs : List AllocRows) (a : AllocRows) → AllByRecursion P allocs → find q allocs ≡ Some a → P a × (q a ≡ true)
+found_alloc P q [] a all found = cc
+found_alloc P q (x ∷ allocs) a all found = at (q x) refl found (found_alloc P q allocs a all.1)
+  where
+    at : (b : Bool) → q x ≡ b → cond b (Some x) (find q allocs) ≡ Some a → (find q allocs ≡ Some a → P a × (q a ≡ true)) → P a × (q a ≡ true)
+    at true is found later = let one : x ≡ a = cc in (subst P one all.0, ap q (sym one) ∙ is)
+    at false is found later = later found
+
+both_false : (a b : Bool) → b ≡ false → (a && b) ≡ false
+both_false true b is = is
+both_false false b is = refl
+
+-- allocations of other numbers are not changed
+with_away : (k : ℕ) (f : List Row → List Row) (allocs : List AllocRows) → AllByRecursion (λ (a : AllocRows). a.id ≢ k) allocs → with_rows k f allocs ≡ allocs
+with_away k f [] away = refl
+with_away k f (a ∷ allocs) away =
+    ap (λ b. changed b f a ∷ with_rows k f allocs) (both_false a.live (a.id == k) (ne_eqb a.id k away.0)) ∙ ap (λ xs. a ∷ xs) (with_away k f allocs away.1)
+
+away_with : (k n : ℕ) (f : List Row → List Row) (allocs : List AllocRows) → AllByRecursion (λ (a : AllocRows). a.id ≢ n) allocs → AllByRecursion (λ (a : AllocRows). a.id ≢ n) (with_rows k f allocs)
+away_with k n f [] away = tt
+away_with k n f (a ∷ allocs) away = (at (is_live k a), away_with k n f allocs away.1)
+  where
+    at : (b : Bool) → (changed b f a).id ≢ n
+    at true = away.0
+    at false = away.0
+
+numbered_with : (k : ℕ) (f : List Row → List Row) (allocs : List AllocRows) → AreNumbered allocs → AreNumbered (with_rows k f allocs)
+numbered_with k f [] numbered = tt
+numbered_with k f (a ∷ allocs) numbered = (at (is_live k a), numbered_with k f allocs numbered.1)
+  where
+    at : (b : Bool) → AllByRecursion (λ (x : AllocRows). x.id ≢ (changed b f a).id) (with_rows k f allocs)
+    at true = away_with k a.id f allocs numbered.0
+    at false = away_with k a.id f allocs numbered.0
+
+-- a change that keeps tags keeps what is known
+known_with : (k : ℕ) (f : List Row → List Row) → ((rows : List Row) (t : ℕ) → HasTag rows t → HasTag (f rows) t) → (allocs : List AllocRows) (p : Prov) → IsKnown allocs p → IsKnown (with_rows k f allocs) p
+known_with k f keeps [] p known = tt
+known_with k f keeps (a ∷ allocs) p known = (at (is_live k a), known_with k f keeps allocs p known.1)
+  where
+    at : (b : Bool) → is_live p.alloc.0 (changed b f a) ≡ true → HasTag (changed b f a).rows p.tag.0
+    at true live = keeps a.rows p.tag.0 (known.0 live)
+    at false live = known.0 live
+
+all_known_with : (k : ℕ) (f : List Row → List Row) → ((rows : List Row) (t : ℕ) → HasTag rows t → HasTag (f rows) t) → (allocs : List AllocRows) (ps : List Prov) → AllByRecursion (IsKnown allocs) ps → AllByRecursion (IsKnown (with_rows k f allocs)) ps
+all_known_with k f keeps allocs [] known = tt
+all_known_with k f keeps allocs (p ∷ ps) known = (known_with k f keeps allocs p known.0, all_known_with k f keeps allocs ps known.1)
+
+away_same : (reached : List Prov) (k : ℕ) (owns eagers : List AllocRows) → StandAll reached owns eagers → AllByRecursion (λ (a : AllocRows). a.id ≢ k) owns → AllByRecursion (λ (a : AllocRows). a.id ≢ k) eagers
+away_same reached k [] [] stand away = tt
+away_same reached k (o ∷ owns) (a ∷ eagers) stand away = ((λ same. away.0 (stand.0.0 ∙ same)), away_same reached k owns eagers stand.1 away.1)
+away_same reached k [] (a ∷ eagers) stand away = absurd stand
+away_same reached k (o ∷ owns) [] stand away = absurd stand
+
+live_same : (reached : List Prov) (k : ℕ) (o a : AllocRows) → StandsAt reached o a → is_live k o ≡ is_live k a
+live_same reached k o a stand = ap (λ b. b && (o.id == k)) stand.2 ∙ ap (λ n. a.live && (n == k)) stand.0
+
+changed_at : (reached : List Prov) (f : List Row → List Row) (o a : AllocRows) → StandsAt reached o a → (o.live ≡ true → Stands o.size (f o.rows) (f a.rows) (reached_in reached o.id)) → StandsAt reached (record o { rows = f o.rows }) (record a { rows = f a.rows })
+changed_at reached f o a stand now = (stand.0, stand.1, stand.2, now)
+
+-- a change of all allocations of a number, which every two that stand bear
+with_each : (reached : List Prov) (k : ℕ) (f : List Row → List Row) → ((size : ℕ) (own rows : List Row) (tags : List ℕ) → Stands size own rows tags → Stands size (f own) (f rows) tags) → (owns eagers : List AllocRows) → StandAll reached owns eagers → StandAll reached (with_rows k f owns) (with_rows k f eagers)
+with_each reached k f bears [] [] stand = tt
+with_each reached k f bears (o ∷ owns) (a ∷ eagers) stand = (subst (λ b. StandsAt reached (changed (is_live k o) f o) (changed b f a)) (live_same reached k o a stand.0) (at (is_live k o)), with_each reached k f bears owns eagers stand.1)
+  where
+    at : (b : Bool) → StandsAt reached (changed b f o) (changed b f a)
+    at true = changed_at reached f o a stand.0 (λ live. bears o.size o.rows a.rows (reached_in reached o.id) (stand.0.3 live))
+    at false = stand.0
+with_each reached k f bears [] (a ∷ eagers) stand = absurd stand
+with_each reached k f bears (o ∷ owns) [] stand = absurd stand
+
+-- the allocations of a number that are found
+abbrev FoundAlike : List Prov → ℕ → (List Row → List Row) → (List Row → List Row) → List AllocRows → List AllocRows → Option AllocRows → Option AllocRows → Type 0
+FoundAlike reached k f g owns eagers None None = Unit {0}
+FoundAlike reached k f g owns eagers (Some o) (Some a) =
+    StandsAt reached o a × (o.live ≡ true) × (Stands o.size (f o.rows) (g a.rows) (reached_in reached o.id) → StandAll reached (with_rows k f owns) (with_rows k g eagers))
+FoundAlike reached k f g owns eagers None (Some a) = ⊥
+FoundAlike reached k f g owns eagers (Some o) None = ⊥
+
+find_alike : (reached : List Prov) (k : ℕ) (f g : List Row → List Row) (owns eagers : List AllocRows) → StandAll reached owns eagers → AreNumbered owns → FoundAlike reached k f g owns eagers (find (is_live k) owns) (find (is_live k) eagers)
+find_alike reached k f g [] [] stand numbered = tt
+find_alike reached k f g (o ∷ owns) (a ∷ eagers) stand numbered =
+    at (is_live k o) refl (is_live k a) refl (sym (live_same reached k o a stand.0)) (find (is_live k) owns) (find (is_live k) eagers) (find_alike reached k f g owns eagers stand.1 numbered.1)
+  where
+    here : is_live k o ≡ true → is_live k a ≡ true → Stands o.size (f o.rows) (g a.rows) (reached_in reached o.id) → StandAll reached (with_rows k f (o ∷ owns)) (with_rows k g (a ∷ eagers))
+    here live_o live_a now =
+        let id : o.id ≡ k = eqb-true o.id k (and_parts o.live (o.id == k) live_o).1 in
+        let away : AllByRecursion (λ (x : AllocRows). x.id ≢ k) owns = subst (λ n. AllByRecursion (λ (x : AllocRows). x.id ≢ n) owns) id numbered.0 in
+        subst (λ xs. StandAll reached xs (with_rows k g (a ∷ eagers))) (sym (ap (λ b. changed b f o ∷ with_rows k f owns) live_o ∙ ap (λ xs. changed true f o ∷ xs) (with_away k f owns away)))
+        (subst (λ xs. StandAll reached (changed true f o ∷ owns) xs) (sym (ap (λ b. changed b g a ∷ with_rows k g eagers) live_a ∙ ap (λ xs. changed true g a ∷ xs) (with_away k g eagers (away_same reached k owns eagers stand.1 away))))
+         ((stand.0.0, stand.0.1, stand.0.2, λ live. now), stand.1))
+
+    later : is_live k o ≡ false → is_live k a ≡ false → StandAll reached (with_rows k f owns) (with_rows k g eagers) → StandAll reached (with_rows k f (o ∷ owns)) (with_rows k g (a ∷ eagers))
+    later dead_o dead_a rest =
+        subst (λ xs. StandAll reached xs (with_rows k g (a ∷ eagers))) (sym (ap (λ b. changed b f o ∷ with_rows k f owns) dead_o))
+        (subst (λ xs. StandAll reached (o ∷ with_rows k f owns) xs) (sym (ap (λ b. changed b g a ∷ with_rows k g eagers) dead_a))
+         (stand.0, rest))
+
+    pass : is_live k o ≡ false → is_live k a ≡ false → (x y : Option AllocRows) → FoundAlike reached k f g owns eagers x y → FoundAlike reached k f g (o ∷ owns) (a ∷ eagers) x y
+    pass dead_o dead_a None None found = tt
+    pass dead_o dead_a (Some x) (Some y) found = (found.0, found.1, λ now. later dead_o dead_a (found.2 now))
+    pass dead_o dead_a None (Some y) found = absurd found
+    pass dead_o dead_a (Some x) None found = absurd found
+
+    at : (b : Bool) → is_live k o ≡ b → (d : Bool) → is_live k a ≡ d → is_live k a ≡ is_live k o → (x y : Option AllocRows) → FoundAlike reached k f g owns eagers x y → FoundAlike reached k f g (o ∷ owns) (a ∷ eagers) (cond b (Some o) x) (cond d (Some a) y)
+    at true is_o true is_a same x y found = (stand.0, (and_parts o.live (o.id == k) is_o).0, here is_o is_a)
+    at false is_o false is_a same x y found = pass is_o is_a x y found
+    at true is_o false is_a same x y found = let clash : false ≡ true = sym is_a ∙ same ∙ is_o in cc
+    at false is_o true is_a same x y found = let clash : true ≡ false = sym is_a ∙ same ∙ is_o in cc
+find_alike reached k f g [] (a ∷ eagers) stand numbered = absurd stand
+find_alike reached k f g (o ∷ owns) [] stand numbered = absurd stand
+
+-- what is left, and the tags that are still to come
+record Left (reached ps : List Prov) (owns eagers : List AllocRows) : Type 0 where
+  stand : StandAll reached owns eagers
+  numbered : AreNumbered owns
+  known : AllByRecursion (IsKnown owns) ps
+
+abbrev LeftAlike : List Prov → List Prov → Ended → Ended → Type 0
+LeftAlike reached ps (Ends owns) (Ends eagers) = Left reached ps owns eagers
+LeftAlike reached ps (Refuses own report owns) (Refuses eager told eagers) = (own ≡ eager) × (report ≡ told) × StandAll reached owns eagers
+LeftAlike reached ps (Ends owns) (Refuses eager told eagers) = ⊥
+LeftAlike reached ps (Refuses own report owns) (Ends eagers) = ⊥
+
+release_alike : (reached ps : List Prov) (p : Prov) (owns eagers : List AllocRows) → Left reached ps owns eagers → IsKnown owns p → LeftAlike reached ps (release_one p owns) (release_one p eagers)
+release_alike reached ps p owns eagers left known =
+    at (find (is_live p.alloc.0) owns) refl (find (is_live p.alloc.0) eagers) (find_alike reached p.alloc.0 (λ rows. released rows p.tag.0) (λ rows. released rows p.tag.0) owns eagers left.stand left.numbered)
+  where
+    told : (o a : AllocRows) → StandsAt reached o a → o.live ≡ true → HasTag o.rows p.tag.0
+        → (Stands o.size (released o.rows p.tag.0) (released a.rows p.tag.0) (reached_in reached o.id) → StandAll reached (with_rows p.alloc.0 (λ rows. released rows p.tag.0) owns) (with_rows p.alloc.0 (λ rows. released rows p.tag.0) eagers))
+        → (r s : Option Report) → release_report o.rows o.size p.tag.0 ≡ r → r ≡ s → LeftAlike reached ps (unless_refused p owns r) (unless_refused p eagers s)
+    told o a stand live has change None None none same =
+        record {
+          stand = change (release_stands o.size o.rows a.rows (reached_in reached o.id) p.tag.0 (stand.3 live) has none);
+          numbered = numbered_with p.alloc.0 (λ rows. released rows p.tag.0) owns left.numbered;
+          known = all_known_with p.alloc.0 (λ rows. released rows p.tag.0) (λ rows t. HasTag-after (release_event rows p.tag.0) rows t) owns ps left.known;
+        }
+    told o a stand live has change (Some r) (Some s) is same = (refl, (let one : r ≡ s = cc in one), left.stand)
+    told o a stand live has change None (Some s) is same = cc
+    told o a stand live has change (Some r) None is same = cc
+
+    at : (x : Option AllocRows) → find (is_live p.alloc.0) owns ≡ x → (y : Option AllocRows) → FoundAlike reached p.alloc.0 (λ rows. released rows p.tag.0) (λ rows. released rows p.tag.0) owns eagers x y → LeftAlike reached ps (release_in p owns x) (release_in p eagers y)
+    at None is None found = left
+    at None is (Some a) found = absurd found
+    at (Some o) is None found = absurd found
+    at (Some o) is (Some a) found =
+        let here = found_alloc (λ (alloc : AllocRows). is_live p.alloc.0 alloc ≡ true → HasTag alloc.rows p.tag.0) (is_live p.alloc.0) owns o known is in
+        let has : HasTag o.rows p.tag.0 = here.0 here.1 in
+        told o a found.0 found.1 has found.2 (release_report o.rows o.size p.tag.0) (release_report a.rows a.size p.tag.0) refl
+        (release_same o.size o.rows a.rows (reached_in reached o.id) p.tag.0 (found.0.3 found.1) has ∙ ap (λ n. release_report a.rows n p.tag.0) found.0.1)
+
+releases_alike : (reached ps : List Prov) (owns eagers : List AllocRows) → Left reached ps owns eagers → EndsAlike reached (release_all ps owns) (release_all ps eagers)
+releases_alike reached [] owns eagers left = left.stand
+releases_alike reached (p ∷ ps) owns eagers left =
+    at (release_one p owns) (release_one p eagers) (release_alike reached ps p owns eagers (record { stand = left.stand; numbered = left.numbered; known = left.known.1 }) left.known.0) (λ x y. releases_alike reached ps x y)
+  where
+    at : (x y : Ended) → LeftAlike reached ps x y → ((os es : List AllocRows) → Left reached ps os es → EndsAlike reached (release_all ps os) (release_all ps es)) → EndsAlike reached (and_then x (release_all ps)) (and_then y (release_all ps))
+    at (Ends os) (Ends es) alike later = later os es alike
+    at (Refuses i r os) (Refuses j s es) alike later = alike
+    at (Ends os) (Refuses j s es) alike later = absurd alike
+    at (Refuses i r os) (Ends es) alike later = absurd alike
+
+unguards_alike : (reached ps : List Prov) (owns eagers : List AllocRows) → StandAll reached owns eagers → StandAll reached (unguard_all ps owns) (unguard_all ps eagers)
+unguards_alike reached [] owns eagers stand = stand
+unguards_alike reached (p ∷ ps) owns eagers stand =
+    unguards_alike reached ps (unguard_one p owns) (unguard_one p eagers)
+    (with_each reached p.alloc.0 (λ rows. unguarded rows p.tag.0) (λ size own rows tags stands. unguarded_stands size own rows tags p.tag.0 stands) owns eagers stand)
+
+pub ends_alike : (reached ps : List Prov) (owns eagers : List AllocRows) → StandAll reached owns eagers → AreNumbered owns → AllByRecursion (IsKnown owns) ps → EndsAlike reached (call_end ps owns) (call_end ps eagers)
+ends_alike reached ps owns eagers stand numbered known = at (release_all ps owns) (release_all ps eagers) (releases_alike reached ps owns eagers (record { stand = stand; numbered = numbered; known = known }))
+  where
+    at : (x y : Ended) → EndsAlike reached x y → EndsAlike reached (and_then x (λ after. Ends (unguard_all ps after))) (and_then y (λ after. Ends (unguard_all ps after)))
+    at (Ends os) (Ends es) alike = unguards_alike reached ps os es alike
+    at (Refuses i r os) (Refuses j s es) alike = alike
+    at (Ends os) (Refuses j s es) alike = absurd alike
+    at (Refuses i r os) (Ends es) alike = absurd alike
