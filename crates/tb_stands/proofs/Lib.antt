@@ -14,3 +14,5 @@ pub mod One
 pub mod FoldLaws
 pub mod Start
 pub mod Ends
+pub mod Computes
+pub mod OwnRows

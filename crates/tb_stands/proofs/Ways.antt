@@ -79,10 +79,10 @@ nearest_self kept (row ∷ older) t keeps has = at (row.tag == t) refl has (near
 
 module _ (kept : ℕ → Bool) (rows : List Row) where
   -- the older rows have the same paths as all
-  abbrev Agrees : List Row → Type 0
+  abbrev pub Agrees : List Row → Type 0
   Agrees back = (p : ℕ) → HasTag back p → path_from (reverse rows) (Some p) ≡ path_from back (Some p)
 
-  agrees_older : (row : Row) (older : List Row) → IsBack (row ∷ older) → Agrees (row ∷ older) → Agrees older
+  pub agrees_older : (row : Row) (older : List Row) → IsBack (row ∷ older) → Agrees (row ∷ older) → Agrees older
   agrees_older row older is agrees p has =
       let less : p < row.tag = below_tag row.tag p older is.0 has in
       agrees p (or_there (is_tag p row) has) ∙ passed row older p (ne_eqb row.tag p (λ same. absurd (omega (arith, less, same))))
@@ -91,7 +91,7 @@ module _ (kept : ℕ → Bool) (rows : List Row) where
       or_there true h = refl
       or_there false h = h
 
-  nearest_older : (row : Row) (older : List Row) → IsBack (row ∷ older) → Agrees older → (o : Option ℕ) → row.parent ≡ o → nearest kept (reverse rows) o ≡ nearest kept older o
+  pub nearest_older : (row : Row) (older : List Row) → IsBack (row ∷ older) → Agrees older → (o : Option ℕ) → row.parent ≡ o → nearest kept (reverse rows) o ≡ nearest kept older o
   nearest_older row older is agrees None up = ap (λ xs. option_map (λ (x : Row). x.tag) (find (is_kept kept) xs)) (path_none (reverse rows) ∙ sym (path_none older))
   nearest_older row older is agrees (Some p) up = ap (λ xs. option_map (λ (x : Row). x.tag) (find (is_kept kept) xs)) (agrees p (is.1 p up))
 
@@ -123,7 +123,7 @@ module _ (kept : ℕ → Bool) (rows : List Row) where
           skipped (raised kept rows row) (some_of (is_kept kept) (raised kept rows) older) (nearest kept older asked) (nearest_less kept older row.tag asked is.0) ∙ on
       at false false drops up on = on
 
-  reverse_own : reverse (restricted kept rows) ≡ some_of (is_kept kept) (raised kept rows) (reverse rows)
+  pub reverse_own : reverse (restricted kept rows) ≡ some_of (is_kept kept) (raised kept rows) (reverse rows)
   reverse_own = reverse_some (is_kept kept) (raised kept rows) rows []
 
   -- the kept rows on a path from anywhere
