@@ -1,3 +1,4 @@
 pub mod Children
 pub mod Rounds
 pub mod Turns
+pub mod GuardLaws

@@ -1,8 +1,10 @@
 //! Pruning: tags that no pointer can use any more are taken out of a tree.
 #![tactic(auto)]
 
+mod guards;
 mod prunable;
 mod pruned;
 mod visit;
 
+pub use guards::law_guards;
 pub use prunable::Prunable;

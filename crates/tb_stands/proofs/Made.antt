@@ -36,7 +36,7 @@ some_agree p f g [] all = refl
 some_agree p f g (x ∷ xs) all =
     some_of-step p f x xs ∙ ap (λ y. front (p x) y (some_of p f xs)) all.0 ∙ ap (front (p x) (g x)) (some_agree p f g xs all.1) ∙ sym (some_of-step p g x xs)
 
-find_append : (rows : List Row) (row : Row) (t : ℕ) → HasTag rows t → find (is_tag t) (rows ++ row ∷ []) ≡ find (is_tag t) rows
+pub find_append : (rows : List Row) (row : Row) (t : ℕ) → HasTag rows t → find (is_tag t) (rows ++ row ∷ []) ≡ find (is_tag t) rows
 find_append [] row t has = absurd (cc)
 find_append (x ∷ rows) row t has = at (is_tag t x) has (find_append rows row t)
   where
