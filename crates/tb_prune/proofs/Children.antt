@@ -90,13 +90,13 @@ module _ (stays : ℕ → Bool) (size : ℕ) (rows : List Row) (is : IsRows size
   folds_same c byte keeps_c covers =
       subst (λ p. Covers p (perm_in rows c byte) (is_guarded (guard_in rows c))) (perm_own stays rows t byte keeps)
       (subst (λ p. Covers (perm_in (restricted stays rows) t byte) p (is_guarded (guard_in rows c))) (perm_own stays rows c byte keeps_c)
-       (subst (λ g. Covers (perm_in (restricted stays rows) t byte) (perm_in (restricted stays rows) c byte) (is_guarded g)) (guard_own stays rows c keeps_c) covers))
+      (subst (λ g. Covers (perm_in (restricted stays rows) t byte) (perm_in (restricted stays rows) c byte) (is_guarded g)) (guard_own stays rows c keeps_c) covers))
 
   folds_back : (c byte : ℕ) → stays c ≡ true → Covers (perm_in rows t byte) (perm_in rows c byte) (is_guarded (guard_in rows c)) → Covers (perm_in (restricted stays rows) t byte) (perm_in (restricted stays rows) c byte) (is_guarded (guard_in (restricted stays rows) c))
   folds_back c byte keeps_c covers =
       subst (λ p. Covers p (perm_in (restricted stays rows) c byte) (is_guarded (guard_in (restricted stays rows) c))) (sym (perm_own stays rows t byte keeps))
       (subst (λ p. Covers (perm_in rows t byte) p (is_guarded (guard_in (restricted stays rows) c))) (sym (perm_own stays rows c byte keeps_c))
-       (subst (λ g. Covers (perm_in rows t byte) (perm_in rows c byte) (is_guarded g)) (sym (guard_own stays rows c keeps_c)) covers))
+      (subst (λ g. Covers (perm_in rows t byte) (perm_in rows c byte) (is_guarded g)) (sym (guard_own stays rows c keeps_c)) covers))
 
   -- what is below the tag is at or below a child of it that stays
   child_of : (u : ℕ) → stays u ≡ true → is_below rows t u ≡ true → (c : ℕ) × (parent_in (restricted stays rows) c ≡ Some t) × (is_on_path (restricted stays rows) u c ≡ true)

@@ -7,10 +7,10 @@ use tb_protect::Protectors;
 /// nothing can tell from being there. No call takes memory, and none can be refused.
 pub trait Prunable: BorrowTree {
     ghost use Rattle.std.specs.Prelude.{◌≡◌, ◌≢◌, ℕ, [], length, true};
-    ghost use Rattle.tb_perm.specs.Rows.{HasTag};
+    ghost use Rattle.tb_perm.specs.Rows.{HasTag, tags};
     ghost use Rattle.tb_perm.specs.Calls.{IsTree};
     ghost use Rattle.tb_perm.specs.Pruning.{is_noted};
-    ghost use Rattle.tb_stands.specs.Folded.{Prunes};
+    ghost use Rattle.tb_stands.specs.Folded.{Prunes, folded};
     ghost use Rattle.tb_prune.specs.Guards.{GuardsAre};
 
     /// Notes a tag that is reached.
@@ -30,6 +30,7 @@ pub trait Prunable: BorrowTree {
         requires sound { IsTree (Self.extent self.old) (Self.rows self.old) (Self.notes self.old) }
         requires guards { GuardsAre protectors.now alloc (Self.rows self.old) }
         ensures left { Prunes (Self.extent self.old) (Self.notes self.old) (Self.rows self.old) (Self.rows self.new) }
+        ensures tags { tags (Self.rows self.new) ≡ folded (Self.extent self.old) (Self.rows self.old) (Self.notes self.old) }
         ensures extent { Self.extent self.new ≡ Self.extent self.old }
         ensures notes { Self.notes self.new ≡ [] }
         ensures count { result ≡ length (Self.rows self.new) }

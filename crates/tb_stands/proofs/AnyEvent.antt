@@ -98,7 +98,7 @@ module _ (kept : ℕ → Bool) (size : ℕ) (rows : List Row) (stands : StandsBy
   covers_rows r c among_r among_c cover byte within =
       subst (λ p. Covers p (state_at c byte).perm (is_guarded c.guard)) (perm_in-found rows r.tag byte r among_r)
       (subst (λ p. Covers (perm_in rows r.tag byte) p (is_guarded c.guard)) (perm_in-found rows c.tag byte c among_c)
-       (subst (λ g. Covers (perm_in rows r.tag byte) (perm_in rows c.tag byte) (is_guarded g)) (guard_in-found rows c.tag c among_c) (cover.folds byte within)))
+      (subst (λ g. Covers (perm_in rows r.tag byte) (perm_in rows c.tag byte) (is_guarded g)) (guard_in-found rows c.tag c among_c) (cover.folds byte within)))
 
   refusal_same : (r : Row) → kept r.tag ≡ true → (byte : ℕ) → refusal_at (restricted kept rows) mine (raised kept rows r) byte ≡ refusal_at rows all r byte
   refusal_same r keeps byte =
@@ -124,8 +124,8 @@ module _ (kept : ℕ → Bool) (size : ℕ) (rows : List Row) (stands : StandsBy
             c.1,
             c.2.keeps,
             ap (λ m. is_some (refusal_of m (is_guarded c.0.guard) (rel_of rows all c.0) (state_at c.0 byte))) (sym (meets_same r.tag c.0.tag byte drops c.2) ∙ is)
-            ∙ ap (λ b. is_some (refusal_of (Some kind) (is_guarded c.0.guard) (cond b Local Foreign) (state_at c.0 byte))) on_c
-            ∙ local,
+                ∙ ap (λ b. is_some (refusal_of (Some kind) (is_guarded c.0.guard) (cond b Local Foreign) (state_at c.0 byte))) on_c
+                ∙ local,
             on_c,
             below_less size rows r.tag c.0.tag stands.sound c.2.below,
           )
@@ -150,7 +150,7 @@ module _ (kept : ℕ → Bool) (size : ℕ) (rows : List Row) (stands : StandsBy
   after_same =
       sym
       (ap (map (raised kept (after all rows))) (filter_changed (is_kept kept) (moved_row rows all) (λ row. refl) rows)
-       ∙ map_some (is_kept kept) (raised kept (after all rows)) (moved_row rows all) (moved_row (restricted kept rows) mine) (raised kept rows) one rows)
+      ∙ map_some (is_kept kept) (raised kept (after all rows)) (moved_row rows all) (moved_row (restricted kept rows) mine) (raised kept rows) one rows)
     where
       one : (row : Row) → kept row.tag ≡ true → raised kept (after all rows) (moved_row rows all row) ≡ moved_row (restricted kept rows) mine (raised kept rows row)
       one row keeps =
@@ -169,8 +169,8 @@ module _ (kept : ℕ → Bool) (size : ℕ) (rows : List Row) (stands : StandsBy
   folds_after access none r c among_r among_c drops cover byte within =
       subst (λ g. Covers (perm_in (after all rows) r.tag byte) (perm_in (after all rows) c.tag byte) (is_guarded g)) (sym (guard_in-after all rows c.tag ∙ guard_in-found rows c.tag c among_c))
       (subst (λ p. Covers p (perm_in (after all rows) c.tag byte) (is_guarded c.guard)) (sym (perm_in-after size all rows r.tag byte r stands.sound within among_r ∙ ap (λ g. (moved_state (all.meets r.tag byte) g (rel_of rows all r) (state_at r byte)).perm) (free_row r among_r drops)))
-       (subst (λ p. Covers (moved_state (all.meets r.tag byte) false (rel_of rows all r) (state_at r byte)).perm p (is_guarded c.guard)) (sym (perm_in-after size all rows c.tag byte c stands.sound within among_c))
-        moved))
+      (subst (λ p. Covers (moved_state (all.meets r.tag byte) false (rel_of rows all r) (state_at r byte)).perm p (is_guarded c.guard)) (sym (perm_in-after size all rows c.tag byte c stands.sound within among_c))
+      moved))
     where
       clear : (x : Row) → Among rows x → refuses (refusal_at rows all) byte x ≡ false
       clear x among = none_passes (is_tag x.tag) (refuses (refusal_at rows all) byte) rows x (report_clear (refusal_at rows all) access size rows all.through byte none within) among

@@ -106,13 +106,13 @@ find_alike reached k f g (o ∷ owns) (a ∷ eagers) stand numbered =
         let away : AllByRecursion (λ (x : AllocRows). x.id ≢ k) owns = subst (λ n. AllByRecursion (λ (x : AllocRows). x.id ≢ n) owns) id numbered.0 in
         subst (λ xs. StandAll reached xs (with_rows k g (a ∷ eagers))) (sym (ap (λ b. changed b f o ∷ with_rows k f owns) live_o ∙ ap (λ xs. changed true f o ∷ xs) (with_away k f owns away)))
         (subst (λ xs. StandAll reached (changed true f o ∷ owns) xs) (sym (ap (λ b. changed b g a ∷ with_rows k g eagers) live_a ∙ ap (λ xs. changed true g a ∷ xs) (with_away k g eagers (away_same reached k owns eagers stand.1 away))))
-         ((stand.0.0, stand.0.1, stand.0.2, λ live. now), stand.1))
+        ((stand.0.0, stand.0.1, stand.0.2, λ live. now), stand.1))
 
     later : is_live k o ≡ false → is_live k a ≡ false → StandAll reached (with_rows k f owns) (with_rows k g eagers) → StandAll reached (with_rows k f (o ∷ owns)) (with_rows k g (a ∷ eagers))
     later dead_o dead_a rest =
         subst (λ xs. StandAll reached xs (with_rows k g (a ∷ eagers))) (sym (ap (λ b. changed b f o ∷ with_rows k f owns) dead_o))
         (subst (λ xs. StandAll reached (o ∷ with_rows k f owns) xs) (sym (ap (λ b. changed b g a ∷ with_rows k g eagers) dead_a))
-         (stand.0, rest))
+        (stand.0, rest))
 
     pass : is_live k o ≡ false → is_live k a ≡ false → (x y : Option AllocRows) → FoundAlike reached k f g owns eagers x y → FoundAlike reached k f g (o ∷ owns) (a ∷ eagers) x y
     pass dead_o dead_a None None found = tt

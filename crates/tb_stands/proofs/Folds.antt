@@ -155,13 +155,13 @@ module _ (kept stays : ℕ → Bool) (size : ℕ) (rows : List Row) (reached : L
   folds_own t c byte keeps_t keeps_c covers =
       subst (λ p. Covers p (perm_in rows c byte) (is_guarded (guard_in rows c))) (perm_own kept rows t byte keeps_t)
       (subst (λ p. Covers (perm_in own t byte) p (is_guarded (guard_in rows c))) (perm_own kept rows c byte keeps_c)
-       (subst (λ g. Covers (perm_in own t byte) (perm_in own c byte) (is_guarded g)) (guard_own kept rows c keeps_c) covers))
+      (subst (λ g. Covers (perm_in own t byte) (perm_in own c byte) (is_guarded g)) (guard_own kept rows c keeps_c) covers))
 
   folds_all : (t c byte : ℕ) → kept t ≡ true → kept c ≡ true → Covers (perm_in rows t byte) (perm_in rows c byte) (is_guarded (guard_in rows c)) → Covers (perm_in own t byte) (perm_in own c byte) (is_guarded (guard_in own c))
   folds_all t c byte keeps_t keeps_c covers =
       subst (λ p. Covers p (perm_in own c byte) (is_guarded (guard_in own c))) (sym (perm_own kept rows t byte keeps_t))
       (subst (λ p. Covers (perm_in rows t byte) p (is_guarded (guard_in own c))) (sym (perm_own kept rows c byte keeps_c))
-       (subst (λ g. Covers (perm_in rows t byte) (perm_in rows c byte) (is_guarded g)) (sym (guard_own kept rows c keeps_c)) covers))
+      (subst (λ g. Covers (perm_in rows t byte) (perm_in rows c byte) (is_guarded g)) (sym (guard_own kept rows c keeps_c)) covers))
 
   parts : (t : ℕ) → both kept stays t ≡ true → (kept t ≡ true) × (stays t ≡ true)
   parts t is = and_parts (kept t) (stays t) is

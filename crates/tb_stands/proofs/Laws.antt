@@ -41,7 +41,7 @@ pub access_stands : (size : ℕ) (own rows : List Row) (reached : List ℕ) (t l
 access_stands size own rows reached t lo hi kind stands has none = (
   stands.0,
   of_kept stands.0 size own rows stands.1 (λ o. HasTag o t → StandsBy stands.0 size (accessed o t lo hi kind) (accessed rows t lo hi kind))
-  (λ s has. event_stands stands.0 size rows s (access_event t lo hi kind) (access_event t lo hi kind) (access_seen stands.0 rows t lo hi kind (own_has stands.0 rows t has) (own_keeps stands.0 rows t has)) (access_of kind) (sym (access_same size own rows reached t lo hi kind stands (subst (λ o. HasTag o t) (sym stands.1.are) has)) ∙ none)) has,
+      (λ s has. event_stands stands.0 size rows s (access_event t lo hi kind) (access_event t lo hi kind) (access_seen stands.0 rows t lo hi kind (own_has stands.0 rows t has) (own_keeps stands.0 rows t has)) (access_of kind) (sym (access_same size own rows reached t lo hi kind stands (subst (λ o. HasTag o t) (sym stands.1.are) has)) ∙ none)) has,
   All_map (HasTag own) (HasTag (accessed own t lo hi kind)) (λ u. HasTag-after (access_event t lo hi kind) own u) reached stands.2,
 )
 
@@ -54,7 +54,7 @@ pub release_stands : (size : ℕ) (own rows : List Row) (reached : List ℕ) (t 
 release_stands size own rows reached t stands has none = (
   stands.0,
   of_kept stands.0 size own rows stands.1 (λ o. HasTag o t → StandsBy stands.0 size (released o t) (released rows t))
-  (λ s has. event_stands stands.0 size rows s (release_event (restricted stands.0 rows) t) (release_event rows t) (release_seen stands.0 size rows t s.sound (own_has stands.0 rows t has) (own_keeps stands.0 rows t has)) OfCallEnd (sym (release_same size own rows reached t stands (subst (λ o. HasTag o t) (sym stands.1.are) has)) ∙ none)) has,
+      (λ s has. event_stands stands.0 size rows s (release_event (restricted stands.0 rows) t) (release_event rows t) (release_seen stands.0 size rows t s.sound (own_has stands.0 rows t has) (own_keeps stands.0 rows t has)) OfCallEnd (sym (release_same size own rows reached t stands (subst (λ o. HasTag o t) (sym stands.1.are) has)) ∙ none)) has,
   All_map (HasTag own) (HasTag (released own t)) (λ u. HasTag-after (release_event own t) own u) reached stands.2,
 )
 
@@ -74,7 +74,7 @@ pub dealloc_stands : (size : ℕ) (own rows : List Row) (reached : List ℕ) (t 
 dealloc_stands size own rows reached t stands has none = (
   stands.0,
   of_kept stands.0 size own rows stands.1 (λ o. HasTag o t → dealloc_report o size t ≡ None → StandsBy stands.0 size (deallocated o size t) (deallocated rows size t))
-  (λ s has. free_stands stands.0 size rows t s (own_has stands.0 rows t has) (own_keeps stands.0 rows t has)) has none,
+      (λ s has. free_stands stands.0 size rows t s (own_has stands.0 rows t has) (own_keeps stands.0 rows t has)) has none,
   All_map (HasTag own) (HasTag (deallocated own size t)) (λ u. HasTag-after (access_event t 0 size Write) own u) reached stands.2,
 )
 
@@ -94,12 +94,12 @@ reborrow_by kept size own rows new stands has above none =
         (event_stands kept size rows s (reborrow_event new) (reborrow_event new) (reborrow_seen kept rows new has keeps) OfReborrow none)
         (λ o. StandsBy kept size (o ++ new_row size new ∷ []) (reborrowed rows size new))
         (λ after.
-         made_stands kept size (reborrowed_rows rows new) (new_row size new) new.parent.0 after
-         (All_tags-kept (λ t. t < new.tag.0) rows (reborrowed_rows rows new) (after-keeps (reborrow_event new) rows) (recursion_from_All (λ (row : Row). row.tag < new.tag.0) rows above))
-         refl
-         (HasTag-after (reborrow_event new) rows new.parent.0 has)
-         keeps
-         (length-map-range_with_len (new_state new) 0 size))
+        made_stands kept size (reborrowed_rows rows new) (new_row size new) new.parent.0 after
+        (All_tags-kept (λ t. t < new.tag.0) rows (reborrowed_rows rows new) (after-keeps (reborrow_event new) rows) (recursion_from_All (λ (row : Row). row.tag < new.tag.0) rows above))
+        refl
+        (HasTag-after (reborrow_event new) rows new.parent.0 has)
+        keeps
+        (length-map-range_with_len (new_state new) 0 size))
 
 pub reborrow_stands : (size : ℕ) (own rows : List Row) (reached : List ℕ) (new : NewTag) → Stands size own rows reached → HasTag own new.parent.0 → All (λ (row : Row). row.tag < new.tag.0) rows → reborrow_report own size new ≡ None → Stands size (reborrowed own size new) (reborrowed rows size new) (new.tag.0 ∷ reached)
 reborrow_stands size own rows reached new stands has above none = (

@@ -132,8 +132,8 @@ module _ (kept : ℕ → Bool) (size : ℕ) (rows : List Row) (row : Row) (p : �
   appended =
       sym
       (some_append (is_kept kept) (raised kept longer) rows (row ∷ [])
-       ∙ ap (λ xs. xs ++ some_of (is_kept kept) (raised kept longer) (row ∷ [])) (some_agree (is_kept kept) (raised kept longer) (raised kept rows) rows (raised_before rows (find_self rows (AreRising-rows size rows stands.sound))))
-       ∙ ap (λ xs. restricted kept rows ++ xs) (some_of-step (is_kept kept) (raised kept longer) row [] ∙ ap (λ b. front b (raised kept longer row) []) keeps_new ∙ ap (λ x. x ∷ []) raised_new))
+      ∙ ap (λ xs. xs ++ some_of (is_kept kept) (raised kept longer) (row ∷ [])) (some_agree (is_kept kept) (raised kept longer) (raised kept rows) rows (raised_before rows (find_self rows (AreRising-rows size rows stands.sound))))
+      ∙ ap (λ xs. restricted kept rows ++ xs) (some_of-step (is_kept kept) (raised kept longer) row [] ∙ ap (λ b. front b (raised kept longer row) []) keeps_new ∙ ap (λ x. x ∷ []) raised_new))
 
   guard_before : (t : ℕ) → HasTag rows t → guard_in longer t ≡ guard_in rows t
   guard_before t there = ap (λ o. unwrap_or (option_map (λ (x : Row). x.guard) o) Free) (find_append rows row t there)
@@ -145,7 +145,7 @@ module _ (kept : ℕ → Bool) (size : ℕ) (rows : List Row) (row : Row) (p : �
   folds_before t c byte there there_c covers =
       subst (λ q. Covers q (perm_in longer c byte) (is_guarded (guard_in longer c))) (sym (perm_before t byte there))
       (subst (λ q. Covers (perm_in rows t byte) q (is_guarded (guard_in longer c))) (sym (perm_before c byte there_c))
-       (subst (λ g. Covers (perm_in rows t byte) (perm_in rows c byte) (is_guarded g)) (sym (guard_before c there_c)) covers))
+      (subst (λ g. Covers (perm_in rows t byte) (perm_in rows c byte) (is_guarded g)) (sym (guard_before c there_c)) covers))
 
   covered : (t : ℕ) → HasTag rows t → kept t ≡ false → MayMiss kept size rows t → MayMiss kept size longer t
   covered t there drops (inl bare) = inl (λ u has_u keeps_u. at u keeps_u (has_either u has_u))

@@ -64,8 +64,8 @@ module _ (size : ℕ) (rows : List Row) (reached : List ℕ) (is : IsRows size r
   one_from a b folded_a folded_b (suc n) t high has =
       one_at a b t folded_a folded_b has
       (λ u has_u below.
-       let less : t < u = below_less size rows t u is below in
-       one_from a b folded_a folded_b n u (omega (arith, high, less)) has_u)
+      let less : t < u = below_less size rows t u is below in
+      one_from a b folded_a folded_b n u (omega (arith, high, less)) has_u)
 
   pub one_folded : (a b : ℕ → Bool) → IsFolded size rows reached a → IsFolded size rows reached b → (t : ℕ) → HasTag rows t → a t ≡ b t
   one_folded a b folded_a folded_b t has = one_from a b folded_a folded_b (above_all rows).0 t (omega arith) has

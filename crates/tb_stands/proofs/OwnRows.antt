@@ -106,11 +106,11 @@ module _ (kept : ℕ → Bool) (rows : List Row) where
       at true rest some =
           IsGrown-next (left (next ∷ older)) (raised kept rows row)
           (record {
-             above = below_left row.tag (next ∷ older) grown.0.above;
-             parent = some.0;
-             is_parent = near ∙ some.1;
-             has_parent = has_left some.0 (next ∷ older) some.2 ∙ some.3;
-           })
+            above = below_left row.tag (next ∷ older) grown.0.above;
+            parent = some.0;
+            is_parent = near ∙ some.1;
+            has_parent = has_left some.0 (next ∷ older) some.2 ∙ some.3;
+          })
           rest
       at false rest some = rest
 

@@ -58,7 +58,7 @@ module _ (kept : ℕ → Bool) (size : ℕ) (rows : List Row) (t : ℕ) (stands 
   unguarded_same =
       sym
       (ap (map (raised kept (unguarded rows t))) (filter_changed (is_kept kept) (unguarded_row t) (λ row. ap kept (tag_same t row)) rows)
-       ∙ map_some (is_kept kept) (raised kept (unguarded rows t)) (unguarded_row t) (unguarded_row t) (raised kept rows) one rows)
+      ∙ map_some (is_kept kept) (raised kept (unguarded rows t)) (unguarded_row t) (unguarded_row t) (raised kept rows) one rows)
     where
       near : (row : Row) → nearest kept (reverse (unguarded rows t)) row.parent ≡ nearest kept (reverse rows) row.parent
       near row = nearest_changed kept (unguarded_row t) (tag_same t) (parent_same t) rows row.parent
@@ -82,7 +82,7 @@ module _ (kept : ℕ → Bool) (size : ℕ) (rows : List Row) (t : ℕ) (stands 
   folds_after u c byte covers =
       covers_guard _ _ (is_guarded (guard_in rows c)) _
       (subst (λ p. Covers p (perm_in (unguarded rows t) c byte) (is_guarded (guard_in rows c))) (sym (perm_same rows t u byte))
-       (subst (λ p. Covers (perm_in rows u byte) p (is_guarded (guard_in rows c))) (sym (perm_same rows t c byte)) covers))
+      (subst (λ p. Covers (perm_in rows u byte) p (is_guarded (guard_in rows c))) (sym (perm_same rows t c byte)) covers))
 
   covered : (u : ℕ) → MayMiss kept size rows u → MayMiss kept size (unguarded rows t) u
   covered u (inl bare) = inl (λ v has keeps. is_below-kept rows (unguarded rows t) u v keeps_tree ∙ bare v (has_before v has) keeps)

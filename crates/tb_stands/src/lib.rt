@@ -4,5 +4,7 @@
 mod events;
 mod folding;
 
-pub use events::{law_access, law_dealloc, law_ended, law_reborrow, law_release, law_start, law_unguard};
+pub use events::{
+    law_access, law_dealloc, law_ended, law_reborrow, law_release, law_start, law_unguard,
+};
 pub use folding::{law_folded, law_pruned};
