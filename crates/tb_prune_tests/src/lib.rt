@@ -1,0 +1,5 @@
+//! Tests of `tb_prune`: lists of events and prunes, and the tags that are left.
+#![tactic(auto)]
+
+#[cfg(test)]
+mod prunes;
