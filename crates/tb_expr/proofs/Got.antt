@@ -1,5 +1,5 @@
 -- What was read where something was wanted, by what was wanted.
-use Rattle.std.proofs.Common.{◌≡◌, ℕ, Bool, true, false, List, Option, Some, None, subst}
+use Rattle.std.proofs.Common.{◌≡◌, ℕ, List, Option, Some, None, subst}
 use Rattle.tb_perm.specs.declared.span.Span.{Span}
 use Rattle.tb_lex.specs.declared.punctuation.Punctuation.{Punctuation}
 use Rattle.tb_lex.specs.declared.punctuation.Punctuation.TheVariants.{CloseBrace}
@@ -7,10 +7,11 @@ use Rattle.tb_ast.specs.declared.expression.Expr.{Expr}
 use Rattle.tb_ast.specs.declared.expression.Else.{Else}
 use Rattle.tb_ast.specs.declared.expression.Block.{Block}
 use Rattle.tb_ast.specs.declared.expression.FieldValue.{FieldValue}
-use Rattle.tb_syntax.specs.Reading.{◌>>=◌}
 use Rattle.tb_syntax.specs.State.{State}
 use Rattle.tb_syntax.specs.Lists.{listed_at}
 use Rattle.tb_syntax.proofs.Options.{bind_some, some_is}
+use Rattle.tb_forms.specs.declared.place.Where.TheVariants.{Anywhere}
+use Rattle.tb_forms.specs.declared.place.Where.{Where}
 use Rattle.tb_forms.specs.declared.wanted.Wanted.{Wanted}
 use Rattle.tb_forms.specs.declared.wanted.Wanted.TheVariants as wanted
 use Rattle.tb_forms.specs.declared.wanted.Got.{Got}
@@ -19,7 +20,7 @@ use Rattle.tb_expr.specs.Exprs.{Reader, whole_at, field_at, block_in_at, tested_
 
 pub data IsGot (depth : ℕ) (one : Reader) : Wanted → State → Got → State → Type 0 where
   GotNothing : {state : State} → IsGot depth one wanted.Nothing state got.Nothing state
-  GotOne : {bare : Bool} {most : ℕ} {state rest : State} (e : Expr) → one bare most state ≡ Some (e, rest) → IsGot depth one (wanted.One bare most) state (got.One e) rest
+  GotOne : {place : Where} {most : ℕ} {state rest : State} (e : Expr) → one place most state ≡ Some (e, rest) → IsGot depth one (wanted.One place most) state (got.One e) rest
   GotValues : {close : Punctuation} {state rest : State} (values : List Expr) (commas : List Span) → listed_at (whole_at depth one) close state ≡ Some ((values, commas), rest)
       → IsGot depth one (wanted.Values close) state (got.Values values commas) rest
   GotFields : {state rest : State} (fields : List FieldValue) (commas : List Span) → listed_at (field_at depth one) CloseBrace state ≡ Some ((fields, commas), rest)
@@ -36,9 +37,9 @@ unfolding got_at
 got-is depth one wanted.Nothing state y e =
     let is : Got × State → Type 0 = λ z. IsGot depth one wanted.Nothing state z.0 z.1 in
     subst is (some_is (got.Nothing, state) y e) GotNothing
-got-is depth one (wanted.One bare most) state y e =
-    let is : Got × State → Type 0 = λ z. IsGot depth one (wanted.One bare most) state z.0 z.1 in
-    let x = bind_some (one bare most state) _ y e in
+got-is depth one (wanted.One place most) state y e =
+    let is : Got × State → Type 0 = λ z. IsGot depth one (wanted.One place most) state z.0 z.1 in
+    let x = bind_some (one place most state) _ y e in
     subst is (some_is (got.One x.0.0, x.0.1) y x.2) (GotOne x.0.0 x.1)
 got-is depth one (wanted.Values close) state y e =
     let is : Got × State → Type 0 = λ z. IsGot depth one (wanted.Values close) state z.0 z.1 in
@@ -65,7 +66,7 @@ got-is depth one wanted.Chosen state y e =
 -- an expression up to a level, or none
 pub data IsValue (depth : ℕ) (one : Reader) : Option ℕ → State → Option Expr → State → Type 0 where
   NoValue : {state : State} → IsValue depth one None state None state
-  AValue : {most : ℕ} {state rest : State} (e : Expr) → one true most state ≡ Some (e, rest) → IsValue depth one (Some most) state (Some e) rest
+  AValue : {most : ℕ} {state rest : State} (e : Expr) → one Anywhere most state ≡ Some (e, rest) → IsValue depth one (Some most) state (Some e) rest
 
 pub value-is : (depth : ℕ) (one : Reader) (level : Option ℕ) (state : State) (y : Option Expr × State) → value_at depth one level state ≡ Some y → IsValue depth one level state y.0 y.1
 unfolding value_at
@@ -74,5 +75,5 @@ value-is depth one None state y e =
     subst is (some_is (None, state) y e) NoValue
 value-is depth one (Some most) state y e =
     let is : Option Expr × State → Type 0 = λ z. IsValue depth one (Some most) state z.0 z.1 in
-    let x = bind_some (one true most state) _ y e in
+    let x = bind_some (one Anywhere most state) _ y e in
     subst is (some_is (Some x.0.0, x.0.1) y x.2) (AValue x.0.0 x.1)

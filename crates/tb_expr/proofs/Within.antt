@@ -1,5 +1,5 @@
 -- Types are written within their own depth: how deep they may lie beyond it makes no difference.
-use Rattle.std.proofs.Common.{◌≡◌, ℕ, zero, suc, ◌+◌, ◌≤◌, Bool, List, [], ◌∷◌, map, Option, Some, None, subst, arith}
+use Rattle.std.proofs.Common.{◌≡◌, ℕ, zero, suc, ◌+◌, ◌≤◌, List, [], ◌∷◌, map, Option, Some, None, subst, arith}
 use Rattle.std.specs.Prelude.{max}
 use Rattle.std.specs.List.{AllByRecursion}
 use Rattle.tb_ast.specs.declared.written.TypeExpr.{TypeExpr, out-TypeExpr}
@@ -14,6 +14,7 @@ use Rattle.tb_ast.specs.Depth.{deepest, type_step, argument_step, arguments_step
 use Rattle.tb_syntax.specs.State.{State}
 use Rattle.tb_syntax.specs.Written.{IsTypeRow, IsArgumentRow, IsArgument, AreArguments, IsType}
 use Rattle.tb_syntax.specs.Notes.{IsNote, IsTurbofish}
+use Rattle.tb_forms.specs.declared.place.Where.{Where}
 use Rattle.tb_forms.specs.declared.front.Front.{Front}
 use Rattle.tb_forms.specs.declared.front.Front.TheVariants as front
 use Rattle.tb_forms.specs.declared.step.Step.{Step}
@@ -108,14 +109,14 @@ front_depth (front.Path path) = turbofish_depth path.turbofish
 front_depth (front.Call callee opening) = turbofish_depth callee.turbofish
 front_depth other = 0
 
-pub front-within : (n d : ℕ) (bare : Bool) (state : State) (f : Front) (rest : State) → IsFrontAt n bare state f rest → front_depth f ≤ d → IsFrontAt d bare state f rest
-front-within n d bare state (front.Path path) rest h b =
+pub front-within : (n d : ℕ) (place : Where) (state : State) (f : Front) (rest : State) → IsFrontAt n place state f rest → front_depth f ≤ d → IsFrontAt d place state f rest
+front-within n d place state (front.Path path) rest h b =
     let p = h.0 in
     (record { plain = p.plain; stands = p.stands; span = p.span; is_path = p.is_path; types = turbofish-within n d path.turbofish p.types b; ends = p.ends }, h.1, h.2)
-front-within n d bare state (front.Call callee opening) rest h b =
+front-within n d place state (front.Call callee opening) rest h b =
     let p = h.1 in
     (h.0, record { plain = p.plain; stands = p.stands; span = p.span; is_path = p.is_path; types = turbofish-within n d callee.turbofish p.types b; ends = p.ends }, h.2)
-front-within n d bare state other rest h b = h
+front-within n d place state other rest h b = h
 
 abbrev pub step_depth : Step → ℕ
 step_depth (step.MethodCall dot name turbofish opening) = turbofish_depth turbofish

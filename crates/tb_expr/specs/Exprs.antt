@@ -1,12 +1,12 @@
 -- Reading expressions, statements and blocks: an operand, and then as far as it goes on.
-use Rattle.std.specs.Prelude.{ℕ, zero, suc, Bool, true, false, if◌then◌else◌, List, [], ◌∷◌, length, Option, None, Some}
+use Rattle.std.specs.Prelude.{ℕ, zero, suc, if◌then◌else◌, List, [], ◌∷◌, length, Option, None, Some}
 use Rattle.tb_perm.specs.declared.span.Span.{Span}
 use Rattle.tb_lex.specs.declared.keyword.Keyword.TheVariants as keyword_of
 use Rattle.tb_lex.specs.declared.punctuation.Punctuation.TheVariants.{OpenBrace, CloseBrace, Semicolon, Colon, Eq}
 use Rattle.tb_ast.specs.declared.leaf.Mark.{Mark}
 use Rattle.tb_ast.specs.declared.leaf.Ident.{Ident}
 use Rattle.tb_ast.specs.declared.written.TypeNote.{TypeNote}
-use Rattle.tb_ast.specs.declared.expression.Expr.{Expr, roll-Expr}
+use Rattle.tb_ast.specs.declared.expression.Expr.{Expr}
 use Rattle.tb_ast.specs.declared.expression.Else.{Else, roll-Else}
 use Rattle.tb_ast.specs.declared.expression.Block.{Block, roll-Block}
 use Rattle.tb_ast.specs.declared.expression.Stmt.{Stmt, roll-Stmt}
@@ -21,12 +21,14 @@ use Rattle.tb_syntax.specs.Leaves.{keyword_at, has_keyword, name_at, optional_ke
 use Rattle.tb_syntax.specs.Lists.{listed_at}
 use Rattle.tb_syntax.specs.Paths.{from_to}
 use Rattle.tb_syntax.specs.Notes.{note_at}
+use Rattle.tb_forms.specs.declared.place.Where.{Where}
+use Rattle.tb_forms.specs.declared.place.Where.TheVariants.{Anywhere, Condition}
 use Rattle.tb_forms.specs.declared.wanted.Wanted.{Wanted}
 use Rattle.tb_forms.specs.declared.wanted.Wanted.TheVariants as wanted
 use Rattle.tb_forms.specs.declared.wanted.Got.{Got}
 use Rattle.tb_forms.specs.declared.wanted.Got.TheVariants as got
 use Rattle.tb_forms.specs.Beginnings.{begins_blocky}
-use Rattle.tb_forms.specs.Levels.{level_of, goes_on}
+use Rattle.tb_forms.specs.Levels.{operand_alone, loosest_level, level_of, goes_on}
 use Rattle.tb_forms.specs.Fronts.{front_at}
 use Rattle.tb_forms.specs.Steps.{step_at}
 use Rattle.tb_forms.specs.Wants.{wants, finished_at, step_wants, step_finished_at}
@@ -76,13 +78,13 @@ start_at depth state =
 
 abbrev pub equals_wants : Option Mark → Option ℕ
 equals_wants None = None
-equals_wants (Some equals) = Some 13
+equals_wants (Some equals) = Some loosest_level
 
 unfoldable pub line_wants : Start → Option ℕ
 line_wants (start.Empty span) = None
 line_wants (start.Let word mutable name ty equals) = equals_wants equals
-line_wants start.Blocky = Some 0
-line_wants start.Plain = Some 13
+line_wants start.Blocky = Some operand_alone
+line_wants start.Plain = Some loosest_level
 
 abbrev pub initializer_of : Option Mark → Option Expr → Option (Option Initializer)
 initializer_of None None = Some None
@@ -109,13 +111,12 @@ line_end_at start.Plain (Some e) state = plain_end_at e state
 line_end_at other value state = None
 
 abbrev pub Reader : Type 0
-Reader = Bool → ℕ → State → Option (Expr × State)
+Reader = Where → ℕ → State → Option (Expr × State)
 
--- With types of at most this depth, where expressions are read by `one`: with a struct literal or not, and up to this level.
--- Up to level 0 that is an operand alone.
+-- With types of at most this depth, where expressions are read by `one`, in this place and up to this level.
 module _ (depth : ℕ) (one : Reader) where
   abbrev pub whole_at : State → Option (Expr × State)
-  whole_at state = one true 13 state
+  whole_at state = one Anywhere loosest_level state
 
   unfoldable pub field_at : State → Option (FieldValue × State)
   field_at state = name_at state >>= λ name.
@@ -125,7 +126,7 @@ module _ (depth : ℕ) (one : Reader) where
   -- an expression up to this level, or none
   unfoldable pub value_at : Option ℕ → State → Option (Option Expr × State)
   value_at None state = Some (None, state)
-  value_at (Some most) state = one true most state >>= λ x. Some (Some x.0, x.1)
+  value_at (Some most) state = one Anywhere most state >>= λ x. Some (Some x.0, x.1)
 
   unfoldable pub line_in : State → Option (Line × State)
   line_in state = start_at depth state >>= λ x. value_at (line_wants x.0) x.1 >>= λ y. line_end_at x.0 y.0 y.1
@@ -150,7 +151,7 @@ module _ (depth : ℕ) (one : Reader) where
   -- a block or an `if` behind `else`
   unfoldable pub branch_at : Span → State → Option (Else × State)
   branch_at at state =
-      if has_keyword keyword_of.If state then (one true 0 state >>= λ branch. Some (roll-Else (Else-F.ElseIf at branch.0), branch.1))
+      if has_keyword keyword_of.If state then (one Anywhere operand_alone state >>= λ branch. Some (roll-Else (Else-F.ElseIf at branch.0), branch.1))
       else (block_in_at state >>= λ body. Some (roll-Else (Else-F.ElseBlock at body.0), body.1))
 
   unfoldable pub else_at : State → Option (Option Else × State)
@@ -160,35 +161,35 @@ module _ (depth : ℕ) (one : Reader) where
 
   -- a condition and a block
   unfoldable pub tested_at : State → Option ((Expr × Block) × State)
-  tested_at state = one false 13 state >>= λ condition. block_in_at condition.1 >>= λ body. Some ((condition.0, body.0), body.1)
+  tested_at state = one Condition loosest_level state >>= λ condition. block_in_at condition.1 >>= λ body. Some ((condition.0, body.0), body.1)
 
   unfoldable pub got_at : Wanted → State → Option (Got × State)
   got_at wanted.Nothing state = Some (got.Nothing, state)
-  got_at (wanted.One bare most) state = one bare most state >>= λ x. Some (got.One x.0, x.1)
+  got_at (wanted.One place most) state = one place most state >>= λ x. Some (got.One x.0, x.1)
   got_at (wanted.Values close) state = listed_at whole_at close state >>= λ x. Some (got.Values x.0.0 x.0.1, x.1)
   got_at wanted.Fields state = listed_at field_at CloseBrace state >>= λ x. Some (got.Fields x.0.0 x.0.1, x.1)
   got_at wanted.Body state = block_in_at state >>= λ x. Some (got.Body x.0, x.1)
   got_at wanted.Repeated state = tested_at state >>= λ x. Some (got.Repeated x.0.0 x.0.1, x.1)
   got_at wanted.Chosen state = tested_at state >>= λ x. else_at x.1 >>= λ y. Some (got.Chosen x.0.0 x.0.1 y.0, y.1)
 
-  unfoldable pub operand_at : Bool → State → Option (Expr × State)
-  operand_at bare state = front_at depth bare state >>= λ x. got_at (wants x.0 bare x.1) x.1 >>= λ y. finished_at x.0 y.0 y.1
+  unfoldable pub operand_at : Where → State → Option (Expr × State)
+  operand_at place state = front_at depth place state >>= λ x. got_at (wants x.0 place x.1) x.1 >>= λ y. finished_at x.0 y.0 y.1
 
   -- one step further behind this left operand
-  unfoldable pub further_at : Bool → Expr → State → Option (Expr × State)
-  further_at bare left state = step_at depth state >>= λ x. got_at (step_wants bare x.0) x.1 >>= λ y. step_finished_at left x.0 y.0 y.1
+  unfoldable pub further_at : Where → Expr → State → Option (Expr × State)
+  further_at place left state = step_at depth state >>= λ x. got_at (step_wants place x.0) x.1 >>= λ y. step_finished_at left x.0 y.0 y.1
 
   -- as far as it goes on, up to this level
-  unfoldable pub longest_at : Bool → ℕ → ℕ → Expr → State → Option (Expr × State)
-  longest_at bare most zero left state = None
-  longest_at bare most (suc fuel) left state =
-      if goes_on (level_of left) most state then (further_at bare left state >>= λ x. longest_at bare most fuel x.0 x.1)
+  unfoldable pub longest_at : Where → ℕ → ℕ → Expr → State → Option (Expr × State)
+  longest_at place most zero left state = None
+  longest_at place most (suc fuel) left state =
+      if goes_on (level_of left) most state then (further_at place left state >>= λ x. longest_at place most fuel x.0 x.1)
       else Some (left, state)
 
 -- an expression in which expressions of one depth less stand
 unfoldable pub expr_at : ℕ → Reader
-expr_at zero bare most state = None
-expr_at (suc depth) bare most state = operand_at depth (expr_at depth) bare state >>= λ x. longest_at depth (expr_at depth) bare most (suc depth) x.0 x.1
+expr_at zero place most state = None
+expr_at (suc depth) place most state = operand_at depth (expr_at depth) place state >>= λ x. longest_at depth (expr_at depth) place most (suc depth) x.0 x.1
 
 -- a block, and a statement or last expression, with expressions of at most this depth in it
 unfoldable pub block_at : ℕ → State → Option (Block × State)

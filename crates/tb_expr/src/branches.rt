@@ -5,10 +5,11 @@ ghost use Rattle.tb_syntax.specs.Reading.{Gives};
 ghost use Rattle.tb_expr.specs.Exprs.{tested_at, else_at, expr_at};
 
 use crate::blocks::block_within;
-use crate::expressions::{LOOSEST, expr_within};
+use crate::expressions::expr_within;
 use sqlite_items::Boxed;
 use std::alloc::Global;
 use tb_ast::{Block, Else, Expr};
+use tb_forms::{LOOSEST_LEVEL, OPERAND_ALONE, Where};
 use tb_lex::Keyword;
 use tb_syntax::{Cursor, ReadError};
 
@@ -22,7 +23,7 @@ pub fn tested<'a>(
 ) -> Result<(Boxed<Expr>, Block, Cursor<'a>), ReadError>
     ensures { Gives (λ x. ((x.0, x.1), x.2)) result (tested_at depth (expr_at depth) cursor.entry) }
 {
-    let (condition, rest) = expr_within(cursor, alloc, depth, false, LOOSEST)?;
+    let (condition, rest) = expr_within(cursor, alloc, depth, Where::Condition, LOOSEST_LEVEL)?;
     let (body, rest) = block_within(rest, alloc, depth)?;
     Ok((condition, body, rest))
 }
@@ -42,7 +43,7 @@ pub fn read_else<'a>(
     }
     let (else_keyword, rest) = cursor.keyword(Keyword::Else)?;
     if rest.has_keyword(Keyword::If) {
-        let (branch, rest) = expr_within(rest, alloc, depth, true, 0)?;
+        let (branch, rest) = expr_within(rest, alloc, depth, Where::Anywhere, OPERAND_ALONE)?;
         let otherwise = Else::ElseIf {
             else_keyword,
             branch,

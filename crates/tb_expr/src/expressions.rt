@@ -5,6 +5,8 @@ ghost use Rattle.tb_ast.specs.declared.expression.Expr.{Expr};
 ghost use Rattle.tb_ast.specs.Depth.{expr_depth};
 ghost use Rattle.tb_syntax.specs.State.{State};
 ghost use Rattle.tb_syntax.specs.Reading.{Gives};
+ghost use Rattle.tb_forms.specs.declared.place.Where.TheVariants.{Anywhere};
+ghost use Rattle.tb_forms.specs.Levels.{loosest_level};
 ghost use Rattle.tb_expr.specs.Exprs.{got_at, operand_at, further_at, longest_at, expr_at};
 ghost use Rattle.tb_expr.specs.Grammar.{IsWholeAt};
 
@@ -14,15 +16,12 @@ use crate::lists::{fields, values};
 use sqlite_items::Boxed;
 use std::alloc::Global;
 use tb_ast::Expr;
-use tb_forms::{Got, Wanted};
+use tb_forms::{Got, LOOSEST_LEVEL, Wanted, Where};
 use tb_syntax::{Cursor, ReadError};
-
-/// The loosest level: an assignment.
-pub const LOOSEST: u32 = 13;
 
 /// The expression that comes next, as far as it goes, and what follows it.
 ///
-/// A struct literal may stand bare in it. `depth` is how many expressions may stand in one another, the
+/// A struct literal may stand in it. `depth` is how many expressions may stand in one another, the
 /// expression itself included; one of no greater depth is always read.
 ///
 /// # Errors
@@ -33,30 +32,30 @@ pub fn expression<'a>(
     alloc: Global,
     depth: u32,
 ) -> Result<(Boxed<Expr>, Cursor<'a>), ReadError>
-    ensures gives { Gives (λ x. x) result (expr_at depth true 13 cursor.entry) }
-    ensures read { IfOk result (λ x. IsWholeAt true 13 cursor.entry x.0 x.1) }
-    ensures refused { IsErrOf result ReadError.Unexpected → (e : Expr) (rest : State) → IsWholeAt true 13 cursor.entry e rest → depth < expr_depth e }
+    ensures gives { Gives (λ x. x) result (expr_at depth Anywhere loosest_level cursor.entry) }
+    ensures read { IfOk result (λ x. IsWholeAt Anywhere loosest_level cursor.entry x.0 x.1) }
+    ensures refused { IsErrOf result ReadError.Unexpected → (e : Expr) (rest : State) → IsWholeAt Anywhere loosest_level cursor.entry e rest → depth < expr_depth e }
 {
-    expr_within(cursor, alloc, depth, true, LOOSEST)
+    expr_within(cursor, alloc, depth, Where::Anywhere, LOOSEST_LEVEL)
 }
 
-/// The expression that comes next, up to this level; up to level 0 that is an operand alone.
+/// The expression that comes next in this place, up to this level.
 #[cycle(expressions)]
 #[tactic(auto, using(crate::proofs::Fuel::expressions))]
 pub fn expr_within<'a>(
     cursor: Cursor<'a>,
     alloc: Global,
     depth: u32,
-    bare: bool,
+    place: Where,
     most: u32,
 ) -> Result<(Boxed<Expr>, Cursor<'a>), ReadError>
-    ensures { Gives (λ x. x) result (expr_at depth bare most cursor.entry) }
+    ensures { Gives (λ x. x) result (expr_at depth place most cursor.entry) }
 {
     if depth == 0 {
         return Err(ReadError::Unexpected);
     }
-    let (left, rest) = operand(cursor, alloc, depth - 1, bare)?;
-    longest(rest, alloc, depth - 1, bare, most, depth, left)
+    let (left, rest) = operand(cursor, alloc, depth - 1, place)?;
+    longest(rest, alloc, depth - 1, place, most, depth, left)
 }
 
 /// The operand that comes next, with expressions of at most this depth in it.
@@ -66,12 +65,12 @@ fn operand<'a>(
     cursor: Cursor<'a>,
     alloc: Global,
     depth: u32,
-    bare: bool,
+    place: Where,
 ) -> Result<(Boxed<Expr>, Cursor<'a>), ReadError>
-    ensures { Gives (λ x. x) result (operand_at depth (expr_at depth) bare cursor.entry) }
+    ensures { Gives (λ x. x) result (operand_at depth (expr_at depth) place cursor.entry) }
 {
-    let (front, rest) = tb_forms::read_front(cursor, alloc, depth, bare)?;
-    let wanted = front.wants(&rest, bare);
+    let (front, rest) = tb_forms::read_front(cursor, alloc, depth, place)?;
+    let wanted = front.wants(&rest, place);
     let (got, rest) = read_wanted(rest, alloc, depth, wanted)?;
     tb_forms::finish(rest, alloc, front, got)
 }
@@ -89,8 +88,8 @@ fn read_wanted<'a>(
 {
     match wanted {
         Wanted::Nothing => Ok((Got::Nothing, cursor)),
-        Wanted::One { bare, most } => {
-            let (e, rest) = expr_within(cursor, alloc, depth, bare, most)?;
+        Wanted::One { place, most } => {
+            let (e, rest) = expr_within(cursor, alloc, depth, place, most)?;
             Ok((Got::One(e), rest))
         }
         Wanted::Values { close } => {
@@ -129,12 +128,12 @@ fn longest<'a>(
     cursor: Cursor<'a>,
     alloc: Global,
     depth: u32,
-    bare: bool,
+    place: Where,
     most: u32,
     steps: u32,
     left: Boxed<Expr>,
 ) -> Result<(Boxed<Expr>, Cursor<'a>), ReadError>
-    ensures { Gives (λ x. x) result (longest_at depth (expr_at depth) bare most steps left cursor.entry) }
+    ensures { Gives (λ x. x) result (longest_at depth (expr_at depth) place most steps left cursor.entry) }
 {
     let mut e = left;
     let mut rest = cursor;
@@ -142,7 +141,7 @@ fn longest<'a>(
         if !tb_forms::goes_on(e.get(), &rest, most) {
             return Ok((e, rest));
         }
-        let (longer, after) = further(rest, alloc, depth, bare, e)?;
+        let (longer, after) = further(rest, alloc, depth, place, e)?;
         e = longer;
         rest = after;
     }
@@ -156,13 +155,13 @@ fn further<'a>(
     cursor: Cursor<'a>,
     alloc: Global,
     depth: u32,
-    bare: bool,
+    place: Where,
     left: Boxed<Expr>,
 ) -> Result<(Boxed<Expr>, Cursor<'a>), ReadError>
-    ensures { Gives (λ x. x) result (further_at depth (expr_at depth) bare left cursor.entry) }
+    ensures { Gives (λ x. x) result (further_at depth (expr_at depth) place left cursor.entry) }
 {
     let (step, rest) = tb_forms::read_step(cursor, alloc, depth)?;
-    let wanted = step.wants(bare);
+    let wanted = step.wants(place);
     let (got, rest) = read_wanted(rest, alloc, depth, wanted)?;
     tb_forms::finish_step(rest, alloc, left, step, got)
 }

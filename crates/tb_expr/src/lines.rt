@@ -11,6 +11,7 @@ use crate::start::{end_line, read_start};
 use sqlite_items::Boxed;
 use std::alloc::Global;
 use tb_ast::{Expr, Stmt};
+use tb_forms::Where;
 use tb_syntax::{Cursor, ReadError};
 
 /// A statement, or the expression that a block ends with.
@@ -56,6 +57,6 @@ pub fn line_within<'a>(
     let Some(most) = start.wants() else {
         return end_line(rest, start, None);
     };
-    let (e, rest) = expr_within(rest, alloc, depth, true, most)?;
+    let (e, rest) = expr_within(rest, alloc, depth, Where::Anywhere, most)?;
     end_line(rest, start, Some(e))
 }

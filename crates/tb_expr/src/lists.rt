@@ -6,10 +6,11 @@ ghost use Rattle.tb_syntax.specs.Reading.{Gives};
 ghost use Rattle.tb_syntax.specs.Lists.{listed_at};
 ghost use Rattle.tb_expr.specs.Exprs.{whole_at, field_at, expr_at};
 
-use crate::expressions::{LOOSEST, expr_within};
+use crate::expressions::expr_within;
 use sqlite_items::Items;
 use std::alloc::Global;
 use tb_ast::{Expr, FieldValue};
+use tb_forms::{LOOSEST_LEVEL, Where};
 use tb_lex::Punctuation;
 use tb_perm::Span;
 use tb_syntax::{Cursor, ReadError};
@@ -32,7 +33,7 @@ pub fn values<'a>(
         if rest.has_mark(close) {
             return Ok((values, commas, rest));
         }
-        let (value, after) = expr_within(rest, alloc, depth, true, LOOSEST)?;
+        let (value, after) = expr_within(rest, alloc, depth, Where::Anywhere, LOOSEST_LEVEL)?;
         values.push(value.into_inner())?;
         if !after.has_mark(Punctuation::Comma) {
             return Ok((values, commas, after));
@@ -88,7 +89,7 @@ fn field<'a>(
         return Ok((FieldValue::Short { name }, rest));
     }
     let (colon, rest) = rest.punct(Punctuation::Colon)?;
-    let (value, rest) = expr_within(rest, alloc, depth, true, LOOSEST)?;
+    let (value, rest) = expr_within(rest, alloc, depth, Where::Anywhere, LOOSEST_LEVEL)?;
     let value = value.into_inner();
     Ok((FieldValue::Named { name, colon, value }, rest))
 }

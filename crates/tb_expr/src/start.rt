@@ -4,11 +4,11 @@ ghost use Rattle.std.specs.Prelude.{◌≡◌};
 ghost use Rattle.tb_syntax.specs.Reading.{Gives};
 ghost use Rattle.tb_expr.specs.Exprs.{ended_by, equals_at, let_start_at, start_at, line_wants, initializer_of, let_end_at, blocky_end_at, plain_end_at, line_end_at};
 
-use crate::expressions::LOOSEST;
 use crate::lines::Line;
 use sqlite_items::Boxed;
 use std::alloc::Global;
 use tb_ast::{Expr, Ident, Initializer, Mark, Stmt, TypeNote};
+use tb_forms::{LOOSEST_LEVEL, OPERAND_ALONE};
 use tb_lex::{Keyword, Punctuation};
 use tb_perm::Span;
 use tb_syntax::{Cursor, ReadError, from_to};
@@ -102,11 +102,11 @@ impl Start {
         match self {
             Start::Empty { .. } => None,
             Start::Let { equals, .. } => match equals {
-                Some(_) => Some(LOOSEST),
+                Some(_) => Some(LOOSEST_LEVEL),
                 None => None,
             },
-            Start::Blocky => Some(0),
-            Start::Plain => Some(LOOSEST),
+            Start::Blocky => Some(OPERAND_ALONE),
+            Start::Plain => Some(LOOSEST_LEVEL),
         }
     }
 }

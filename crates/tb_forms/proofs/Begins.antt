@@ -26,12 +26,13 @@ use Rattle.tb_syntax.specs.Leaves.{token_at, passes, is_keyword, has_keyword}
 use Rattle.tb_syntax.proofs.Marks.{shows}
 use Rattle.tb_syntax.proofs.Tokens.{keyword-has}
 use Rattle.tb_syntax.proofs.Fronts.{path-first}
+use Rattle.tb_forms.specs.declared.place.Where.{Where}
 use Rattle.tb_forms.specs.declared.front.Front.{Front}
 use Rattle.tb_forms.specs.declared.front.Front.TheVariants as front
 use Rattle.tb_forms.specs.declared.step.Step.{Step}
 use Rattle.tb_forms.specs.declared.step.Step.TheVariants as step
 use Rattle.tb_forms.specs.Beginnings.{begins_with, mark_begins, keyword_begins, kind_begins, begins_expr, mark_blocks, kind_blocks, begins_blocky}
-use Rattle.tb_forms.specs.Levels.{binary_level, left_level, mark_level, level_with, level_at, loosest_left, takes_on, goes_on}
+use Rattle.tb_forms.specs.Levels.{operand_alone, tightest_level, loosest_level, binary_level, left_level, mark_level, level_with, level_at, loosest_left, takes_on, goes_on}
 use Rattle.tb_forms.specs.Fronts.{IsFrontAt}
 use Rattle.tb_forms.specs.Steps.{step_level, operand_level, IsStepAt}
 use Rattle.tb_forms.proofs.Firsts.{is_lone, lone-stands, lone-first, IsAnd, and-first, has-first, brace-first, first-no-token, token-stands, row-begins}
@@ -116,63 +117,63 @@ and-begins p (inr e) = (ap mark_begins e, ap mark_blocks e)
 brace-begins : (p : Punctuation) → shows punct_of.OpenBrace p ≡ true → (mark_begins p ≡ true) × (mark_blocks p ≡ true)
 brace-begins p e = let is = brace-first p e in (ap mark_begins is, ap mark_blocks is)
 
-front-opens : (depth : ℕ) (bare : Bool) (state : State) (f : Front) (rest : State) → IsFrontAt depth bare state f rest → Opening state f
+front-opens : (depth : ℕ) (place : Where) (state : State) (f : Front) (rest : State) → IsFrontAt depth place state f rest → Opening state f
 unfolding with-mark with-token
-front-opens depth bare state (front.Literal (literals.Int int)) rest h = record { opens = with-token (kind.Integer int.integer) int.span state rest refl h; begins = refl; blocks = refl; ifs = refl }
-front-opens depth bare state (front.Literal (literals.Char c)) rest h = record { opens = with-token (kind.Character c.value) c.span state rest refl h; begins = refl; blocks = refl; ifs = refl }
-front-opens depth bare state (front.Literal (literals.Byte b)) rest h = record { opens = with-token (kind.Byte b.value) b.span state rest refl h; begins = refl; blocks = refl; ifs = refl }
-front-opens depth bare state (front.Literal (literals.Bool b)) rest h = truth-opens b.value b.span state rest h (front.Literal (literals.Bool b)) refl refl
-front-opens depth bare state (front.Path path) rest h =
+front-opens depth place state (front.Literal (literals.Int int)) rest h = record { opens = with-token (kind.Integer int.integer) int.span state rest refl h; begins = refl; blocks = refl; ifs = refl }
+front-opens depth place state (front.Literal (literals.Char c)) rest h = record { opens = with-token (kind.Character c.value) c.span state rest refl h; begins = refl; blocks = refl; ifs = refl }
+front-opens depth place state (front.Literal (literals.Byte b)) rest h = record { opens = with-token (kind.Byte b.value) b.span state rest refl h; begins = refl; blocks = refl; ifs = refl }
+front-opens depth place state (front.Literal (literals.Bool b)) rest h = truth-opens b.value b.span state rest h (front.Literal (literals.Bool b)) refl refl
+front-opens depth place state (front.Path path) rest h =
     let n = row-begins path state rest h.0.is_path h.0.stands in
     name-opens n.0 state n.1 n.2 (front.Path path) refl refl
-front-opens depth bare state (front.StructLiteral path opening) rest h =
+front-opens depth place state (front.StructLiteral path opening) rest h =
     let n = path-first path state h.3 h.2 h.4 in
     name-opens n.0 state n.1 n.2 (front.StructLiteral path opening) refl refl
-front-opens depth bare state (front.Call path opening) rest h =
+front-opens depth place state (front.Call path opening) rest h =
     let n = row-begins path state h.0 h.1.is_path h.1.stands in
     name-opens n.0 state n.1 n.2 (front.Call path opening) refl refl
-front-opens depth bare state (front.Paren opening) rest h = record { opens = with-mark punct_of.OpenParen (record { span = opening; glued = false }) state rest refl h; begins = refl; blocks = refl; ifs = refl }
-front-opens depth bare state (front.Bracket opening) rest h = record { opens = with-mark punct_of.OpenBracket (record { span = opening; glued = false }) state rest refl h; begins = refl; blocks = refl; ifs = refl }
-front-opens depth bare state front.Block rest h =
+front-opens depth place state (front.Paren opening) rest h = record { opens = with-mark punct_of.OpenParen (record { span = opening; glued = false }) state rest refl h; begins = refl; blocks = refl; ifs = refl }
+front-opens depth place state (front.Bracket opening) rest h = record { opens = with-mark punct_of.OpenBracket (record { span = opening; glued = false }) state rest refl h; begins = refl; blocks = refl; ifs = refl }
+front-opens depth place state front.Block rest h =
     let x = has-first punct_of.OpenBrace state h.0 in
     let b = brace-begins x.0.0 x.2 in
     record { opens = WithMark x.0 x.1; begins = b.0; blocks = b.1; ifs = refl }
-front-opens depth bare state (front.Unsafe at) rest h = record { opens = with-token (kind.Keyword keyword_of.Unsafe) at state rest refl h; begins = refl; blocks = refl; ifs = refl }
-front-opens depth bare state (front.While at) rest h = record { opens = with-token (kind.Keyword keyword_of.While) at state rest refl h; begins = refl; blocks = refl; ifs = refl }
-front-opens depth bare state (front.Loop at) rest h = record { opens = with-token (kind.Keyword keyword_of.Loop) at state rest refl h; begins = refl; blocks = refl; ifs = refl }
-front-opens depth bare state (front.If at) rest h = record { opens = with-token (kind.Keyword keyword_of.If) at state rest refl h; begins = refl; blocks = refl; ifs = refl }
-front-opens depth bare state (front.Return at) rest h = record { opens = with-token (kind.Keyword keyword_of.Return) at state rest refl h; begins = refl; blocks = refl; ifs = refl }
-front-opens depth bare state (front.Break at) rest h = record { opens = with-token (kind.Keyword keyword_of.Break) at state rest refl h; begins = refl; blocks = refl; ifs = refl }
-front-opens depth bare state (front.Continue at) rest h = record { opens = with-token (kind.Keyword keyword_of.Continue) at state rest refl h; begins = refl; blocks = refl; ifs = refl }
-front-opens depth bare state (front.Print name newline bang opening text) rest h =
+front-opens depth place state (front.Unsafe at) rest h = record { opens = with-token (kind.Keyword keyword_of.Unsafe) at state rest refl h; begins = refl; blocks = refl; ifs = refl }
+front-opens depth place state (front.While at) rest h = record { opens = with-token (kind.Keyword keyword_of.While) at state rest refl h; begins = refl; blocks = refl; ifs = refl }
+front-opens depth place state (front.Loop at) rest h = record { opens = with-token (kind.Keyword keyword_of.Loop) at state rest refl h; begins = refl; blocks = refl; ifs = refl }
+front-opens depth place state (front.If at) rest h = record { opens = with-token (kind.Keyword keyword_of.If) at state rest refl h; begins = refl; blocks = refl; ifs = refl }
+front-opens depth place state (front.Return at) rest h = record { opens = with-token (kind.Keyword keyword_of.Return) at state rest refl h; begins = refl; blocks = refl; ifs = refl }
+front-opens depth place state (front.Break at) rest h = record { opens = with-token (kind.Keyword keyword_of.Break) at state rest refl h; begins = refl; blocks = refl; ifs = refl }
+front-opens depth place state (front.Continue at) rest h = record { opens = with-token (kind.Keyword keyword_of.Continue) at state rest refl h; begins = refl; blocks = refl; ifs = refl }
+front-opens depth place state (front.Print name newline bang opening text) rest h =
     name-opens (record { name = record { bytes = print_word newline }; span = name }) state h.0.0 h.0.1 (front.Print name newline bang opening text) refl refl
-front-opens depth bare state (front.Panic name bang opening text closing) rest h =
+front-opens depth place state (front.Panic name bang opening text closing) rest h =
     name-opens (record { name = record { bytes = codes "panic" }; span = name }) state h.0 h.1 (front.Panic name bang opening text closing) refl refl
-front-opens depth bare state (front.Assert name bang opening) rest h =
+front-opens depth place state (front.Assert name bang opening) rest h =
     name-opens (record { name = record { bytes = codes "assert" }; span = name }) state h.0 h.1 (front.Assert name bang opening) refl refl
-front-opens depth bare state (front.Unary operator at) rest h = unary-opens operator at state rest h
-front-opens depth bare state (front.Borrow and borrowed) rest h =
+front-opens depth place state (front.Unary operator at) rest h = unary-opens operator at state rest h
+front-opens depth place state (front.Borrow and borrowed) rest h =
     let x = and-first and state h.0 h.1 in
     let a = and-begins x.0.0 x.2 in
     record { opens = WithMark x.0 x.1; begins = a.0; blocks = a.1; ifs = refl }
 
 -- an operand begins an expression, and a blocky one a blocky expression
 
-pub front-begins : (depth : ℕ) (bare : Bool) (state : State) (f : Front) (rest : State) → IsFrontAt depth bare state f rest → begins_expr state ≡ true
+pub front-begins : (depth : ℕ) (place : Where) (state : State) (f : Front) (rest : State) → IsFrontAt depth place state f rest → begins_expr state ≡ true
 unfolding begins_expr
-front-begins depth bare state f rest h =
-    let o = front-opens depth bare state f rest h in
+front-begins depth place state f rest h =
+    let o = front-opens depth place state f rest h in
     begins-asked mark_begins kind_begins state o.opens ∙ o.begins
 
-pub front-blocks : (depth : ℕ) (bare : Bool) (state : State) (f : Front) (rest : State) → IsFrontAt depth bare state f rest → begins_blocky state ≡ is_blocky f
+pub front-blocks : (depth : ℕ) (place : Where) (state : State) (f : Front) (rest : State) → IsFrontAt depth place state f rest → begins_blocky state ≡ is_blocky f
 unfolding begins_blocky
-front-blocks depth bare state f rest h =
-    let o = front-opens depth bare state f rest h in
+front-blocks depth place state f rest h =
+    let o = front-opens depth place state f rest h in
     begins-asked mark_blocks kind_blocks state o.opens ∙ o.blocks
 
-pub front-ifs : (depth : ℕ) (bare : Bool) (state : State) (f : Front) (rest : State) → IsFrontAt depth bare state f rest → has_keyword keyword_of.If state ≡ is_if f
-front-ifs depth bare state f rest h =
-    let o = front-opens depth bare state f rest h in
+pub front-ifs : (depth : ℕ) (place : Where) (state : State) (f : Front) (rest : State) → IsFrontAt depth place state f rest → has_keyword keyword_of.If state ≡ is_if f
+front-ifs depth place state f rest h =
+    let o = front-opens depth place state f rest h in
     keyword-asked keyword_of.If state o.opens ∙ o.ifs
 
 -- No mark that closes or divides, and no `let`, begins an expression.
@@ -240,11 +241,11 @@ binary-levels : (operator : BinaryOp) → mark_level (binary_mark operator) ≡ 
 binary-levels binary.Mul = refl
 binary-levels other = refl
 
-assign-levels : (operator : AssignOp) → mark_level (assign_mark operator) ≡ Some 13
+assign-levels : (operator : AssignOp) → mark_level (assign_mark operator) ≡ Some loosest_level
 assign-levels assign.Mul = refl
 assign-levels other = refl
 
-dot-level : (dot : Span) (state rest : State) → Begins (punct punct_of.Dot dot) state rest → level_at state ≡ Some 1
+dot-level : (dot : Span) (state rest : State) → Begins (punct punct_of.Dot dot) state rest → level_at state ≡ Some tightest_level
 dot-level dot state rest h = rw (lone-stands punct_of.Dot (record { span = dot; glued = false }) state rest refl h) refl
 
 -- a step's level is the level of what comes next
@@ -272,15 +273,15 @@ step-operands other = refl
 
 -- none goes on up to level 0
 
-mark-nothing : (level : ℕ) (p : Punctuation) → takes_on level 0 (mark_level p) ≡ false
+mark-nothing : (level : ℕ) (p : Punctuation) → takes_on level operand_alone (mark_level p) ≡ false
 mark-nothing level punct_of.Dot = refl
 mark-nothing level other = refl
 
-level-nothing : (level : ℕ) (r : Option (Punctuation × Mark × State)) (cast : Bool) → takes_on level 0 (level_with r cast) ≡ false
+level-nothing : (level : ℕ) (r : Option (Punctuation × Mark × State)) (cast : Bool) → takes_on level operand_alone (level_with r cast) ≡ false
 level-nothing level (Some x) cast = mark-nothing level x.0
 level-nothing level None true = refl
 level-nothing level None false = refl
 
-pub goes-nowhere : (level : ℕ) (state : State) → goes_on level 0 state ≡ false
+pub goes-nowhere : (level : ℕ) (state : State) → goes_on level operand_alone state ≡ false
 unfolding goes_on
 goes-nowhere level state = level-nothing level (first_mark state) (has_keyword keyword_of.As state)

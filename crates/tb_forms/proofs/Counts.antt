@@ -13,8 +13,8 @@ use Rattle.tb_syntax.specs.Marks.{punct_at, has_mark}
 use Rattle.tb_syntax.specs.Leaves.{number_at}
 use Rattle.tb_syntax.proofs.Options.{bind_some, kept, chosen, some_is}
 use Rattle.tb_syntax.proofs.Chains.{stands-one, one-stands}
-use Rattle.tb_syntax.proofs.Marks.{punct-takes, punct-again}
-use Rattle.tb_syntax.proofs.Tokens.{number-takes, number-again}
+use Rattle.tb_syntax.proofs.Marks.{punct-sound, punct-complete}
+use Rattle.tb_syntax.proofs.Tokens.{number-sound, number-complete}
 use Rattle.tb_syntax.proofs.Listed.{begins-has}
 use Rattle.tb_forms.specs.Closings.{is_count, count_at, IsCount}
 use Rattle.tb_forms.specs.Fronts.{optional_comma_at}
@@ -30,28 +30,28 @@ counted : (o : Option Suffix) → (o ≡ None) ⊎ (o ≡ Some suffix.Usize) →
 counted o (inl e) = ap is_count e
 counted o (inr e) = ap is_count e
 
-pub count-takes : (state : State) (int : IntLiteral) (rest : State) → count_at state ≡ Some (int, rest) → Begins (number int) state rest × IsCount int
+pub count-sound : (state : State) (int : IntLiteral) (rest : State) → count_at state ≡ Some (int, rest) → Begins (number int) state rest × IsCount int
 unfolding count_at
-count-takes state int rest e =
+count-sound state int rest e =
     let x = bind_some (number_at state) _ (int, rest) e in
     let k = kept (is_count x.0.0.integer.suffix) (Some (x.0.0, x.0.1)) (int, rest) x.2 in
     let is : IntLiteral × State → Type 0 = λ y. Begins (number y.0) state y.1 × IsCount y.0 in
-    subst is (some_is (x.0.0, x.0.1) (int, rest) k.1) (number-takes state x.0.0 x.0.1 x.1, counts x.0.0.integer.suffix k.0)
+    subst is (some_is (x.0.0, x.0.1) (int, rest) k.1) (number-sound state x.0.0 x.0.1 x.1, counts x.0.0.integer.suffix k.0)
 
-pub count-again : (state : State) (int : IntLiteral) (rest : State) → Begins (number int) state rest → IsCount int → count_at state ≡ Some (int, rest)
+pub count-complete : (state : State) (int : IntLiteral) (rest : State) → Begins (number int) state rest → IsCount int → count_at state ≡ Some (int, rest)
 unfolding count_at
-count-again state int rest h is = rw (number-again state int rest h) (rw (counted int.integer.suffix is) refl)
+count-complete state int rest h is = rw (number-complete state int rest h) (rw (counted int.integer.suffix is) refl)
 
 -- commas that may be left out
 
-pub comma-takes : (state : State) (comma : Option Span) (rest : State) → optional_comma_at state ≡ Some (comma, rest) → Stands (optional_mark Comma comma) state rest
+pub comma-sound : (state : State) (comma : Option Span) (rest : State) → optional_comma_at state ≡ Some (comma, rest) → Stands (optional_mark Comma comma) state rest
 unfolding optional_comma_at
-comma-takes state comma rest e =
+comma-sound state comma rest e =
     let is : Option Span × State → Type 0 = λ y. Stands (optional_mark Comma y.0) state y.1 in
     elim (chosen (has_mark Comma state) (punct_at Comma state >>= λ x. Some (Some x.0, x.1)) (Some (None, state)) (comma, rest) e) [
       | inl k ↦
           let x = bind_some (punct_at Comma state) _ (comma, rest) k.1 in
-          subst is (some_is (Some x.0.0, x.0.1) (comma, rest) x.2) (one-stands (punct Comma x.0.0) state x.0.1 (punct-takes Comma state x.0.0 x.0.1 x.1))
+          subst is (some_is (Some x.0.0, x.0.1) (comma, rest) x.2) (one-stands (punct Comma x.0.0) state x.0.1 (punct-sound Comma state x.0.0 x.0.1 x.1))
       | inr k ↦ subst is (some_is (None, state) (comma, rest) k.1) refl
     ]
 
@@ -67,13 +67,13 @@ comma-ends state comma rest e none =
       | inr k ↦ subst is (some_is (None, state) (comma, rest) k.1) (λ same. k.0) none
     ]
 
-pub comma-again : (state : State) (comma : Option Span) (rest : State) → Stands (optional_mark Comma comma) state rest → (comma ≡ None → has_mark Comma rest ≡ false) → optional_comma_at state ≡ Some (comma, rest)
+pub comma-complete : (state : State) (comma : Option Span) (rest : State) → Stands (optional_mark Comma comma) state rest → (comma ≡ None → has_mark Comma rest ≡ false) → optional_comma_at state ≡ Some (comma, rest)
 unfolding optional_comma_at
-comma-again state None rest h ends =
+comma-complete state None rest h ends =
     let same : state ≡ rest = h in
     let at : State → Option (Option Span × State) = λ s. Some (None, s) in
     rw (ap (has_mark Comma) same ∙ ends refl) (ap at same)
-comma-again state (Some span) rest h ends =
+comma-complete state (Some span) rest h ends =
     let b = stands-one (punct Comma span) state rest h in
     let m : Mark = record { span = span; glued = false } in
-    rw (begins-has Comma m state rest b) (rw (punct-again Comma state span rest b) refl)
+    rw (begins-has Comma m state rest b) (rw (punct-complete Comma state span rest b) refl)

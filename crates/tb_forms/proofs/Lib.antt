@@ -4,8 +4,8 @@ pub mod Begins
 pub mod Paths
 pub mod MacroFronts
 pub mod Borrows
-pub mod FrontTakes
-pub mod FrontAgain
-pub mod StepTakes
-pub mod StepAgain
+pub mod FrontSound
+pub mod FrontComplete
+pub mod StepSound
+pub mod StepComplete
 pub mod Shorter

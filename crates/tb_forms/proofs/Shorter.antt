@@ -22,6 +22,7 @@ use Rattle.tb_syntax.specs.State.{State, Begins, Stands}
 use Rattle.tb_syntax.specs.Paths.{AreNamed, IsPath}
 use Rattle.tb_syntax.proofs.Chains.{stands-split, begins-shrinks, stands-shrinks}
 use Rattle.tb_syntax.proofs.Tokens.{token-shorter}
+use Rattle.tb_forms.specs.declared.place.Where.{Where}
 use Rattle.tb_forms.specs.declared.front.Front.{Front}
 use Rattle.tb_forms.specs.declared.front.Front.TheVariants as front
 use Rattle.tb_forms.specs.declared.step.Step.{Step}
@@ -72,44 +73,44 @@ takes_token front.Block = false
 takes_token (front.Borrow and kind) = false
 takes_token other = true
 
-pub front-shorter : (depth : ℕ) (bare : Bool) (state : State) (f : Front) (rest : State) → takes_token f ≡ true → IsFrontAt depth bare state f rest → length rest < length state
-front-shorter depth bare state (front.Literal value) rest t h = literal-shorter value state rest h
-front-shorter depth bare state (front.Path path) rest t h = row-shorter path state rest h.0.is_path h.0.stands
-front-shorter depth bare state (front.StructLiteral path opening) rest t h =
+pub front-shorter : (depth : ℕ) (place : Where) (state : State) (f : Front) (rest : State) → takes_token f ≡ true → IsFrontAt depth place state f rest → length rest < length state
+front-shorter depth place state (front.Literal value) rest t h = literal-shorter value state rest h
+front-shorter depth place state (front.Path path) rest t h = row-shorter path state rest h.0.is_path h.0.stands
+front-shorter depth place state (front.StructLiteral path opening) rest t h =
     let first = path-shorter path state h.3 h.2 h.4 in
     let second = begins-shrinks (punct punct_of.OpenBrace opening) h.3 rest h.5 in
     omega arith
-front-shorter depth bare state (front.Call path opening) rest t h =
+front-shorter depth place state (front.Call path opening) rest t h =
     let first = row-shorter path state h.0 h.1.is_path h.1.stands in
     let second = begins-shrinks (punct punct_of.OpenParen opening) h.0 rest h.2 in
     omega arith
-front-shorter depth bare state (front.Paren opening) rest t h = punct-shorter punct_of.OpenParen opening state rest refl h
-front-shorter depth bare state (front.Bracket opening) rest t h = punct-shorter punct_of.OpenBracket opening state rest refl h
-front-shorter depth bare state front.Block rest t h = absurd cc
-front-shorter depth bare state (front.Unsafe at) rest t h = token-shorter (kind.Keyword keyword_of.Unsafe) at state rest refl h
-front-shorter depth bare state (front.While at) rest t h = token-shorter (kind.Keyword keyword_of.While) at state rest refl h
-front-shorter depth bare state (front.Loop at) rest t h = token-shorter (kind.Keyword keyword_of.Loop) at state rest refl h
-front-shorter depth bare state (front.If at) rest t h = token-shorter (kind.Keyword keyword_of.If) at state rest refl h
-front-shorter depth bare state (front.Return at) rest t h = token-shorter (kind.Keyword keyword_of.Return) at state rest refl h
-front-shorter depth bare state (front.Break at) rest t h = token-shorter (kind.Keyword keyword_of.Break) at state rest refl h
-front-shorter depth bare state (front.Continue at) rest t h = token-shorter (kind.Keyword keyword_of.Continue) at state rest refl h
-front-shorter depth bare state (front.Print name newline bang opening text) rest t h =
+front-shorter depth place state (front.Paren opening) rest t h = punct-shorter punct_of.OpenParen opening state rest refl h
+front-shorter depth place state (front.Bracket opening) rest t h = punct-shorter punct_of.OpenBracket opening state rest refl h
+front-shorter depth place state front.Block rest t h = absurd cc
+front-shorter depth place state (front.Unsafe at) rest t h = token-shorter (kind.Keyword keyword_of.Unsafe) at state rest refl h
+front-shorter depth place state (front.While at) rest t h = token-shorter (kind.Keyword keyword_of.While) at state rest refl h
+front-shorter depth place state (front.Loop at) rest t h = token-shorter (kind.Keyword keyword_of.Loop) at state rest refl h
+front-shorter depth place state (front.If at) rest t h = token-shorter (kind.Keyword keyword_of.If) at state rest refl h
+front-shorter depth place state (front.Return at) rest t h = token-shorter (kind.Keyword keyword_of.Return) at state rest refl h
+front-shorter depth place state (front.Break at) rest t h = token-shorter (kind.Keyword keyword_of.Break) at state rest refl h
+front-shorter depth place state (front.Continue at) rest t h = token-shorter (kind.Keyword keyword_of.Continue) at state rest refl h
+front-shorter depth place state (front.Print name newline bang opening text) rest t h =
     let first = token-shorter (kind.Name (record { bytes = print_word newline })) name state h.0.0 refl h.0.1 in
     let others = stands-shrinks (punct punct_of.Not bang ∷ punct punct_of.OpenParen opening ∷ print_text text) h.0.0 rest h.0.2 in
     omega arith
-front-shorter depth bare state (front.Panic name bang opening text closing) rest t h =
+front-shorter depth place state (front.Panic name bang opening text closing) rest t h =
     let first = token-shorter (kind.Name (record { bytes = codes "panic" })) name state h.0 refl h.1 in
     let others = stands-shrinks (punct punct_of.Not bang ∷ punct punct_of.OpenParen opening ∷ (text_pieces text ++ punct punct_of.CloseParen closing ∷ [])) h.0 rest h.2 in
     omega arith
-front-shorter depth bare state (front.Assert name bang opening) rest t h =
+front-shorter depth place state (front.Assert name bang opening) rest t h =
     let first = token-shorter (kind.Name (record { bytes = codes "assert" })) name state h.0 refl h.1 in
     let others = stands-shrinks (punct punct_of.Not bang ∷ punct punct_of.OpenParen opening ∷ []) h.0 rest h.2 in
     omega arith
-front-shorter depth bare state (front.Unary operator at) rest t h = punct-shorter (unary_mark operator) at state rest (unary-lone operator) h
-front-shorter depth bare state (front.Borrow and borrowed) rest t h = absurd cc
+front-shorter depth place state (front.Unary operator at) rest t h = punct-shorter (unary_mark operator) at state rest (unary-lone operator) h
+front-shorter depth place state (front.Borrow and borrowed) rest t h = absurd cc
 
-pub borrow-shrinks : (depth : ℕ) (bare : Bool) (state : State) (and : Mark) (borrowed : Borrow) (rest : State) → IsFrontAt depth bare state (front.Borrow and borrowed) rest → length rest ≤ length state
-borrow-shrinks depth bare state and borrowed rest h =
+pub borrow-shrinks : (depth : ℕ) (place : Where) (state : State) (and : Mark) (borrowed : Borrow) (rest : State) → IsFrontAt depth place state (front.Borrow and borrowed) rest → length rest ≤ length state
+borrow-shrinks depth place state and borrowed rest h =
     let first = begins-shrinks (mark punct_of.And and) state h.0 h.1 in
     let others = stands-shrinks (borrow_kind borrowed) h.0 rest h.2 in
     omega arith

@@ -1,5 +1,5 @@
 -- What comes next: an expression, one with a block of its own, a macro, `raw` as a word.
-use Rattle.std.specs.Prelude.{Bool, true, false, ◌&&◌, ◌||◌, List, [], ◌∷◌, Option, None, Some, codes}
+use Rattle.std.specs.Prelude.{Bool, true, false, ◌&&◌, ◌||◌, Option, None, Some, codes}
 use Rattle.tb_lex.specs.declared.keyword.Keyword.{Keyword}
 use Rattle.tb_lex.specs.declared.keyword.Keyword.TheVariants as keyword_of
 use Rattle.tb_lex.specs.declared.punctuation.Punctuation.{Punctuation}
@@ -7,7 +7,6 @@ use Rattle.tb_lex.specs.declared.punctuation.Punctuation.TheVariants as punct_of
 use Rattle.tb_lex.specs.declared.token.TokenKind.{TokenKind}
 use Rattle.tb_lex.specs.declared.token.TokenKind.TheVariants as kind
 use Rattle.tb_lex.specs.declared.token.Token.{Token}
-use Rattle.tb_lex.specs.declared.token.Name.{Name}
 use Rattle.tb_ast.specs.declared.leaf.Mark.{Mark}
 use Rattle.tb_syntax.specs.State.{State}
 use Rattle.tb_syntax.specs.Marks.{first_mark, has_mark}

@@ -1,5 +1,5 @@
 -- What stands before the first expression, block or list in an operand, or is the whole of it.
-use Rattle.std.specs.Prelude.{◌≡◌, ℕ, Bool, true, false, ◌&&◌, if◌then◌else◌, List, [], ◌∷◌, ◌++◌, Option, None, Some, codes}
+use Rattle.std.specs.Prelude.{◌≡◌, ℕ, Bool, true, false, if◌then◌else◌, List, [], ◌∷◌, ◌++◌, Option, None, Some, codes}
 use Rattle.tb_perm.specs.declared.span.Span.{Span}
 use Rattle.tb_lex.specs.declared.keyword.Keyword.{Keyword}
 use Rattle.tb_lex.specs.declared.keyword.Keyword.TheVariants as keyword_of
@@ -11,9 +11,7 @@ use Rattle.tb_lex.specs.declared.token.Token.{Token}
 use Rattle.tb_ast.specs.declared.leaf.Mark.{Mark}
 use Rattle.tb_ast.specs.declared.leaf.Path.{Path}
 use Rattle.tb_ast.specs.declared.leaf.TextLiteral.{TextLiteral}
-use Rattle.tb_ast.specs.declared.leaf.Literal.{Literal}
 use Rattle.tb_ast.specs.declared.leaf.Literal.TheVariants as literals
-use Rattle.tb_ast.specs.declared.operator.UnaryOp.{UnaryOp}
 use Rattle.tb_ast.specs.declared.operator.UnaryOp.TheVariants as unary
 use Rattle.tb_ast.specs.declared.operator.Borrow.{Borrow}
 use Rattle.tb_ast.specs.declared.operator.Borrow.TheVariants as borrow
@@ -29,6 +27,8 @@ use Rattle.tb_syntax.specs.Leaves.{token_at, keyword_at, has_keyword, word_at, t
 use Rattle.tb_syntax.specs.Attributes.{has_word}
 use Rattle.tb_syntax.specs.Paths.{from_to, path_at, IsPath}
 use Rattle.tb_syntax.specs.Notes.{turbofish_at, IsTurbofish, TurbofishEnds}
+use Rattle.tb_forms.specs.declared.place.Where.{Where}
+use Rattle.tb_forms.specs.declared.place.Where.TheVariants.{Anywhere, Condition}
 use Rattle.tb_forms.specs.declared.front.Front.{Front}
 use Rattle.tb_forms.specs.declared.front.Front.TheVariants as front
 use Rattle.tb_forms.specs.Beginnings.{begins_macro, begins_raw, has_text}
@@ -45,10 +45,11 @@ expr_path_at depth state = do
   turbofish ← turbofish_at depth path.1
   Some (record { span = path_span path.0 turbofish.0; path = path.0; turbofish = turbofish.0 }, turbofish.1)
 
--- `{` opens a struct literal behind a path without types, where one may stand bare
-abbrev pub opens_literal : Bool → Option Turbofish → State → Bool
-opens_literal bare None state = bare && has_mark punct_of.OpenBrace state
-opens_literal bare (Some turbofish) state = false
+-- `{` opens a struct literal behind a path without types, but not in a condition
+abbrev pub opens_literal : Where → Option Turbofish → State → Bool
+opens_literal Anywhere None state = has_mark punct_of.OpenBrace state
+opens_literal Anywhere (Some turbofish) state = false
+opens_literal Condition turbofish state = false
 
 abbrev pub call_front : ExprPath → State → Option (Front × State)
 call_front path state = punct_at punct_of.OpenParen state >>= λ opening. Some (front.Call path opening.0, opening.1)
@@ -57,14 +58,14 @@ abbrev pub literal_front : Path → State → Option (Front × State)
 literal_front path state = punct_at punct_of.OpenBrace state >>= λ opening. Some (front.StructLiteral path opening.0, opening.1)
 
 -- a call, a struct literal, or the path alone
-abbrev pub path_goes_on : Bool → ExprPath → State → Option (Front × State)
-path_goes_on bare path state =
+abbrev pub path_goes_on : Where → ExprPath → State → Option (Front × State)
+path_goes_on place path state =
     if has_mark punct_of.OpenParen state then call_front path state
-    else (if opens_literal bare path.turbofish state then literal_front path.path state
+    else (if opens_literal place path.turbofish state then literal_front path.path state
     else Some (front.Path path, state))
 
-unfoldable pub path_front_at : ℕ → Bool → State → Option (Front × State)
-path_front_at depth bare state = expr_path_at depth state >>= λ path. path_goes_on bare path.0 path.1
+unfoldable pub path_front_at : ℕ → Where → State → Option (Front × State)
+path_front_at depth place state = expr_path_at depth state >>= λ path. path_goes_on place path.0 path.1
 
 -- Macros: a word, `!` and `(`.
 
@@ -160,26 +161,26 @@ keyword_front keyword_of.Break span = Some (front.Break span)
 keyword_front keyword_of.Continue span = Some (front.Continue span)
 keyword_front other span = None
 
-abbrev pub worded_front : ℕ → Bool → State → TokenKind → Span → State → Option (Front × State)
-worded_front depth bare state (kind.Integer integer) span rest = Some (front.Literal (literals.Int (record { integer = integer; span = span })), rest)
-worded_front depth bare state (kind.Character value) span rest = Some (front.Literal (literals.Char (record { value = value; span = span })), rest)
-worded_front depth bare state (kind.Byte value) span rest = Some (front.Literal (literals.Byte (record { value = value; span = span })), rest)
-worded_front depth bare state (kind.Keyword word) span rest = keyword_front word span >>= λ f. Some (f, rest)
-worded_front depth bare state (kind.Name name) span rest =
-    if has_mark punct_of.Not rest then macro_front_at state else path_front_at depth bare state
-worded_front depth bare state other span rest = None
+abbrev pub worded_front : ℕ → Where → State → TokenKind → Span → State → Option (Front × State)
+worded_front depth place state (kind.Integer integer) span rest = Some (front.Literal (literals.Int (record { integer = integer; span = span })), rest)
+worded_front depth place state (kind.Character value) span rest = Some (front.Literal (literals.Char (record { value = value; span = span })), rest)
+worded_front depth place state (kind.Byte value) span rest = Some (front.Literal (literals.Byte (record { value = value; span = span })), rest)
+worded_front depth place state (kind.Keyword word) span rest = keyword_front word span >>= λ f. Some (f, rest)
+worded_front depth place state (kind.Name name) span rest =
+    if has_mark punct_of.Not rest then macro_front_at state else path_front_at depth place state
+worded_front depth place state other span rest = None
 
-abbrev pub token_front : ℕ → Bool → State → Option (Token × State) → Option (Front × State)
-token_front depth bare state None = None
-token_front depth bare state (Some x) = worded_front depth bare state x.0.kind x.0.span x.1
+abbrev pub token_front : ℕ → Where → State → Option (Token × State) → Option (Front × State)
+token_front depth place state None = None
+token_front depth place state (Some x) = worded_front depth place state x.0.kind x.0.span x.1
 
-abbrev pub front_with : ℕ → Bool → State → Option (Punctuation × Mark × State) → Option (Front × State)
-front_with depth bare state (Some x) = marked_front state x.0 x.1 x.2
-front_with depth bare state None = token_front depth bare state (token_at state)
+abbrev pub front_with : ℕ → Where → State → Option (Punctuation × Mark × State) → Option (Front × State)
+front_with depth place state (Some x) = marked_front state x.0 x.1 x.2
+front_with depth place state None = token_front depth place state (token_at state)
 
 -- with types of at most this depth, and with a struct literal or not
-unfoldable pub front_at : ℕ → Bool → State → Option (Front × State)
-front_at depth bare state = front_with depth bare state (first_mark state)
+unfoldable pub front_at : ℕ → Where → State → Option (Front × State)
+front_at depth place state = front_with depth place state (first_mark state)
 
 -- As they are written.
 
@@ -202,25 +203,25 @@ abbrev pub PrintEnds : Bool → Option PrintText → State → Type 0
 PrintEnds newline None rest = (newline ≡ true) × (has_text rest ≡ false)
 PrintEnds newline (Some format) rest = (format.comma ≡ None → has_mark punct_of.Comma rest ≡ false)
 
-abbrev pub IsFrontAt : ℕ → Bool → State → Front → State → Type 0
-IsFrontAt depth bare state (front.Literal value) rest = Begins (literal value) state rest
-IsFrontAt depth bare state (front.Path path) rest = IsExprPathAt depth state path rest × (has_mark punct_of.OpenParen rest ≡ false) × (opens_literal bare path.turbofish rest ≡ false)
-IsFrontAt depth bare state (front.StructLiteral path opening) rest =
-    (bare ≡ true) × (begins_macro state ≡ false) × IsPath path × (middle : State) × Stands (path_pieces path) state middle × Begins (punct punct_of.OpenBrace opening) middle rest
-IsFrontAt depth bare state (front.Call path opening) rest = (middle : State) × IsExprPathAt depth state path middle × Begins (punct punct_of.OpenParen opening) middle rest
-IsFrontAt depth bare state (front.Paren opening) rest = Begins (punct punct_of.OpenParen opening) state rest
-IsFrontAt depth bare state (front.Bracket opening) rest = Begins (punct punct_of.OpenBracket opening) state rest
-IsFrontAt depth bare state front.Block rest = (has_mark punct_of.OpenBrace state ≡ true) × (state ≡ rest)
-IsFrontAt depth bare state (front.Unsafe at) rest = Begins (keyword keyword_of.Unsafe at) state rest
-IsFrontAt depth bare state (front.While at) rest = Begins (keyword keyword_of.While at) state rest
-IsFrontAt depth bare state (front.Loop at) rest = Begins (keyword keyword_of.Loop at) state rest
-IsFrontAt depth bare state (front.If at) rest = Begins (keyword keyword_of.If at) state rest
-IsFrontAt depth bare state (front.Return at) rest = Begins (keyword keyword_of.Return at) state rest
-IsFrontAt depth bare state (front.Break at) rest = Begins (keyword keyword_of.Break at) state rest
-IsFrontAt depth bare state (front.Continue at) rest = Begins (keyword keyword_of.Continue at) state rest
-IsFrontAt depth bare state (front.Print name newline bang opening text) rest = Stands (macro_front (print_word newline) name bang opening ++ print_text text) state rest × PrintEnds newline text rest
-IsFrontAt depth bare state (front.Panic name bang opening text closing) rest =
+abbrev pub IsFrontAt : ℕ → Where → State → Front → State → Type 0
+IsFrontAt depth place state (front.Literal value) rest = Begins (literal value) state rest
+IsFrontAt depth place state (front.Path path) rest = IsExprPathAt depth state path rest × (has_mark punct_of.OpenParen rest ≡ false) × (opens_literal place path.turbofish rest ≡ false)
+IsFrontAt depth place state (front.StructLiteral path opening) rest =
+    (place ≡ Anywhere) × (begins_macro state ≡ false) × IsPath path × (middle : State) × Stands (path_pieces path) state middle × Begins (punct punct_of.OpenBrace opening) middle rest
+IsFrontAt depth place state (front.Call path opening) rest = (middle : State) × IsExprPathAt depth state path middle × Begins (punct punct_of.OpenParen opening) middle rest
+IsFrontAt depth place state (front.Paren opening) rest = Begins (punct punct_of.OpenParen opening) state rest
+IsFrontAt depth place state (front.Bracket opening) rest = Begins (punct punct_of.OpenBracket opening) state rest
+IsFrontAt depth place state front.Block rest = (has_mark punct_of.OpenBrace state ≡ true) × (state ≡ rest)
+IsFrontAt depth place state (front.Unsafe at) rest = Begins (keyword keyword_of.Unsafe at) state rest
+IsFrontAt depth place state (front.While at) rest = Begins (keyword keyword_of.While at) state rest
+IsFrontAt depth place state (front.Loop at) rest = Begins (keyword keyword_of.Loop at) state rest
+IsFrontAt depth place state (front.If at) rest = Begins (keyword keyword_of.If at) state rest
+IsFrontAt depth place state (front.Return at) rest = Begins (keyword keyword_of.Return at) state rest
+IsFrontAt depth place state (front.Break at) rest = Begins (keyword keyword_of.Break at) state rest
+IsFrontAt depth place state (front.Continue at) rest = Begins (keyword keyword_of.Continue at) state rest
+IsFrontAt depth place state (front.Print name newline bang opening text) rest = Stands (macro_front (print_word newline) name bang opening ++ print_text text) state rest × PrintEnds newline text rest
+IsFrontAt depth place state (front.Panic name bang opening text closing) rest =
     Stands (macro_front (codes "panic") name bang opening ++ (text_pieces text ++ punct punct_of.CloseParen closing ∷ [])) state rest
-IsFrontAt depth bare state (front.Assert name bang opening) rest = Stands (macro_front (codes "assert") name bang opening) state rest
-IsFrontAt depth bare state (front.Unary operator at) rest = Begins (punct (unary_mark operator) at) state rest
-IsFrontAt depth bare state (front.Borrow and kind) rest = (middle : State) × Begins (mark punct_of.And and) state middle × Stands (borrow_kind kind) middle rest × BorrowEnds kind rest
+IsFrontAt depth place state (front.Assert name bang opening) rest = Stands (macro_front (codes "assert") name bang opening) state rest
+IsFrontAt depth place state (front.Unary operator at) rest = Begins (punct (unary_mark operator) at) state rest
+IsFrontAt depth place state (front.Borrow and kind) rest = (middle : State) × Begins (mark punct_of.And and) state middle × Stands (borrow_kind kind) middle rest × BorrowEnds kind rest

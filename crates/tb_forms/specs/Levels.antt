@@ -14,6 +14,35 @@ use Rattle.tb_syntax.specs.State.{State}
 use Rattle.tb_syntax.specs.Marks.{first_mark}
 use Rattle.tb_syntax.specs.Leaves.{has_keyword}
 
+-- the levels that rules name; up to level 0 an expression is an operand alone
+
+abbrev pub operand_alone : ℕ
+operand_alone = 0
+
+abbrev pub tightest_level : ℕ
+tightest_level = 1
+
+abbrev pub prefix_level : ℕ
+prefix_level = 2
+
+abbrev pub cast_level : ℕ
+cast_level = 3
+
+-- of what comparisons compare at most
+abbrev pub compared_level : ℕ
+compared_level = 9
+
+abbrev pub comparison_level : ℕ
+comparison_level = 10
+
+-- of what is assigned to at most
+abbrev pub target_level : ℕ
+target_level = 12
+
+-- of assignments
+abbrev pub loosest_level : ℕ
+loosest_level = 13
+
 -- `* / %`, `+ -`, `<< >>`, `&`, `^`, `|`, comparisons, `&&`, `||`
 abbrev pub binary_level : BinaryOp → ℕ
 binary_level binary.Mul = 4
@@ -37,12 +66,12 @@ binary_level binary.Or = 12
 
 -- the loosest left operand: operators group to the left, and comparisons are not chained
 abbrev pub left_level : BinaryOp → ℕ
-left_level binary.Eq = 9
-left_level binary.Ne = 9
-left_level binary.Lt = 9
-left_level binary.Gt = 9
-left_level binary.Le = 9
-left_level binary.Ge = 9
+left_level binary.Eq = compared_level
+left_level binary.Ne = compared_level
+left_level binary.Lt = compared_level
+left_level binary.Gt = compared_level
+left_level binary.Le = compared_level
+left_level binary.Ge = compared_level
 left_level other = binary_level other
 
 -- the loosest right operand
@@ -52,13 +81,13 @@ right_level operator = binary_level operator - 1
 -- literals, paths, what is closed by itself, calls and what stands behind a dot bind the tightest, then prefixes, then `as`, and
 -- assignments the loosest
 abbrev pub level_in : {A B C D E F : Type 0} → Expr-F A B C D E F → ℕ
-level_in (Expr-F.Unary span operator at operand) = 2
-level_in (Expr-F.Borrow span and kind operand) = 2
-level_in (Expr-F.Cast span operand at ty) = 3
+level_in (Expr-F.Unary span operator at operand) = prefix_level
+level_in (Expr-F.Borrow span and kind operand) = prefix_level
+level_in (Expr-F.Cast span operand at ty) = cast_level
 level_in (Expr-F.Binary span left operator at right) = binary_level operator
-level_in (Expr-F.Assign span target equals value) = 13
-level_in (Expr-F.AssignOp span target operator at value) = 13
-level_in other = 1
+level_in (Expr-F.Assign span target equals value) = loosest_level
+level_in (Expr-F.AssignOp span target operator at value) = loosest_level
+level_in other = tightest_level
 
 abbrev pub level_of : Expr → ℕ
 level_of e = level_in (out-Expr e)
@@ -103,18 +132,18 @@ assign_of other = None
 
 abbrev pub operator_level : Option BinaryOp → Option AssignOp → Option ℕ
 operator_level (Some operator) assigns = Some (binary_level operator)
-operator_level None (Some assigns) = Some 13
+operator_level None (Some assigns) = Some loosest_level
 operator_level None None = None
 
 abbrev pub mark_level : Punctuation → Option ℕ
-mark_level punct_of.Dot = Some 1
-mark_level punct_of.OpenBracket = Some 1
-mark_level punct_of.Eq = Some 13
+mark_level punct_of.Dot = Some tightest_level
+mark_level punct_of.OpenBracket = Some tightest_level
+mark_level punct_of.Eq = Some loosest_level
 mark_level other = operator_level (binary_of other) (assign_of other)
 
 abbrev pub level_with : Option (Punctuation × Mark × State) → Bool → Option ℕ
 level_with (Some x) cast = mark_level x.0
-level_with None true = Some 3
+level_with None true = Some cast_level
 level_with None false = None
 
 abbrev pub level_at : State → Option ℕ
@@ -122,7 +151,7 @@ level_at state = level_with (first_mark state) (has_keyword keyword_of.As state)
 
 -- the loosest left operand of an expression of this level: comparisons are not chained, and assignments group to the right
 abbrev pub loosest_left : ℕ → ℕ
-loosest_left level = if level == 10 then 9 else (if level == 13 then 12 else level)
+loosest_left level = if level == comparison_level then compared_level else (if level == loosest_level then target_level else level)
 
 -- an expression of this level is the left operand of one of the next level, up to a level
 abbrev pub takes_on : ℕ → ℕ → Option ℕ → Bool

@@ -1,5 +1,5 @@
 -- How an expression goes on behind an operand.
-use Rattle.std.specs.Prelude.{◌≡◌, ℕ, ◌+◌, nat_le, Bool, true, false, if◌then◌else◌, List, [], ◌∷◌, ◌++◌, length, ◌==◌, ◌&&◌, ◌||◌, Option, None, Some}
+use Rattle.std.specs.Prelude.{◌≡◌, ℕ, Bool, true, false, if◌then◌else◌, [], ◌∷◌, ◌++◌, length, ◌==◌, ◌&&◌, ◌||◌, Option, None, Some}
 use Rattle.tb_perm.specs.declared.span.Span.{Span}
 use Rattle.tb_lex.specs.declared.keyword.Keyword.TheVariants as keyword_of
 use Rattle.tb_lex.specs.declared.punctuation.Punctuation.{Punctuation}
@@ -21,7 +21,7 @@ use Rattle.tb_syntax.specs.Types.{length_at, type_at}
 use Rattle.tb_syntax.specs.Written.{IsTypeAt}
 use Rattle.tb_forms.specs.declared.step.Step.{Step}
 use Rattle.tb_forms.specs.declared.step.Step.TheVariants as step
-use Rattle.tb_forms.specs.Levels.{binary_level, left_level, right_level, binary_of, assign_of}
+use Rattle.tb_forms.specs.Levels.{tightest_level, cast_level, target_level, loosest_level, binary_level, left_level, binary_of, assign_of}
 use Rattle.tb_forms.specs.Fronts.{unless_glued}
 
 -- Behind a dot.
@@ -71,18 +71,18 @@ step_at depth state = step_with depth state (first_mark state)
 -- The levels of a step: its own, and the loosest operand on its left.
 
 abbrev pub step_level : Step → ℕ
-step_level (step.Cast at ty) = 3
+step_level (step.Cast at ty) = cast_level
 step_level (step.Binary operator at) = binary_level operator
-step_level (step.Assign equals) = 13
-step_level (step.AssignOp operator at) = 13
-step_level other = 1
+step_level (step.Assign equals) = loosest_level
+step_level (step.AssignOp operator at) = loosest_level
+step_level other = tightest_level
 
 abbrev pub operand_level : Step → ℕ
-operand_level (step.Cast at ty) = 3
+operand_level (step.Cast at ty) = cast_level
 operand_level (step.Binary operator at) = left_level operator
-operand_level (step.Assign equals) = 12
-operand_level (step.AssignOp operator at) = 12
-operand_level other = 1
+operand_level (step.Assign equals) = target_level
+operand_level (step.AssignOp operator at) = target_level
+operand_level other = tightest_level
 
 -- As they are written.
 

@@ -16,7 +16,7 @@ use Rattle.tb_ast.specs.declared.expression.ExprPath.{ExprPath}
 use Rattle.tb_ast.specs.declared.expression.PrintText.{PrintText}
 use Rattle.tb_ast.specs.declared.expression.Expr.{Expr, roll-Expr}
 use Rattle.tb_ast.specs.declared.expression.Else.{Else, out-Else}
-use Rattle.tb_ast.specs.declared.expression.Block.{Block, out-Block}
+use Rattle.tb_ast.specs.declared.expression.Block.{Block}
 use Rattle.tb_ast.specs.declared.expression.FieldValue.{FieldValue}
 use Rattle.tb_ast.specs.declared.expression.Stmt.{Stmt}
 use Rattle.tb_ast.specs.declared.expression.Initializer.{Initializer}

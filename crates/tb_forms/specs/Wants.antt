@@ -1,5 +1,5 @@
 -- What a form wants to be read behind its first part, and what it is with what was read there.
-use Rattle.std.specs.Prelude.{ℕ, Bool, true, false, if◌then◌else◌, List, [], Option, None, Some}
+use Rattle.std.specs.Prelude.{Bool, true, false, if◌then◌else◌, List, [], Option, None, Some}
 use Rattle.tb_perm.specs.declared.span.Span.{Span}
 use Rattle.tb_lex.specs.declared.punctuation.Punctuation.TheVariants.{CloseParen, CloseBracket}
 use Rattle.tb_ast.specs.declared.expression.PrintText.{PrintText}
@@ -9,6 +9,8 @@ use Rattle.tb_ast.specs.declared.expression.Else.{Else}
 use Rattle.tb_ast.specs.declared.expression.Block.{Block}
 use Rattle.tb_ast.specs.declared.expression.Else.TheOpen.{Expr-F}
 use Rattle.tb_syntax.specs.State.{State}
+use Rattle.tb_forms.specs.declared.place.Where.{Where}
+use Rattle.tb_forms.specs.declared.place.Where.TheVariants.{Anywhere}
 use Rattle.tb_forms.specs.declared.front.Front.{Front}
 use Rattle.tb_forms.specs.declared.front.Front.TheVariants as front
 use Rattle.tb_forms.specs.declared.step.Step.{Step}
@@ -18,7 +20,7 @@ use Rattle.tb_forms.specs.declared.wanted.Wanted.TheVariants as wanted
 use Rattle.tb_forms.specs.declared.wanted.Got.{Got}
 use Rattle.tb_forms.specs.declared.wanted.Got.TheVariants as got
 use Rattle.tb_forms.specs.Beginnings.{begins_expr}
-use Rattle.tb_forms.specs.Levels.{right_level}
+use Rattle.tb_forms.specs.Levels.{prefix_level, loosest_level, right_level}
 use Rattle.tb_forms.specs.Trees.{unary_to, borrow_to, return_to, unsafe_to, loop_to, while_to, if_to, field_of, tuple_field_of, cast_to, binary_with, assign_to, compute_to, panic_of}
 use Rattle.tb_forms.specs.Closings.{group_at, array_at, literal_at, call_at, method_call_at, index_at, print_at, assert_at}
 
@@ -33,26 +35,26 @@ takes_values (Some format) = is_some format.comma where
   is_some (Some comma) = true
 
 -- `return` takes what begins an expression
-unfoldable pub wants : Front → Bool → State → Wanted
-wants (front.Literal value) bare state = wanted.Nothing
-wants (front.Path path) bare state = wanted.Nothing
-wants (front.StructLiteral path opening) bare state = wanted.Fields
-wants (front.Call callee opening) bare state = wanted.Values CloseParen
-wants (front.Paren opening) bare state = wanted.Values CloseParen
-wants (front.Bracket opening) bare state = wanted.Values CloseBracket
-wants front.Block bare state = wanted.Body
-wants (front.Unsafe at) bare state = wanted.Body
-wants (front.While at) bare state = wanted.Repeated
-wants (front.Loop at) bare state = wanted.Body
-wants (front.If at) bare state = wanted.Chosen
-wants (front.Return at) bare state = if begins_expr state then wanted.One bare 13 else wanted.Nothing
-wants (front.Break span) bare state = wanted.Nothing
-wants (front.Continue span) bare state = wanted.Nothing
-wants (front.Print name newline bang opening text) bare state = if takes_values text then wanted.Values CloseParen else wanted.Nothing
-wants (front.Panic name bang opening text closing) bare state = wanted.Nothing
-wants (front.Assert name bang opening) bare state = wanted.One true 13
-wants (front.Unary operator at) bare state = wanted.One bare 2
-wants (front.Borrow and kind) bare state = wanted.One bare 2
+unfoldable pub wants : Front → Where → State → Wanted
+wants (front.Literal value) place state = wanted.Nothing
+wants (front.Path path) place state = wanted.Nothing
+wants (front.StructLiteral path opening) place state = wanted.Fields
+wants (front.Call callee opening) place state = wanted.Values CloseParen
+wants (front.Paren opening) place state = wanted.Values CloseParen
+wants (front.Bracket opening) place state = wanted.Values CloseBracket
+wants front.Block place state = wanted.Body
+wants (front.Unsafe at) place state = wanted.Body
+wants (front.While at) place state = wanted.Repeated
+wants (front.Loop at) place state = wanted.Body
+wants (front.If at) place state = wanted.Chosen
+wants (front.Return at) place state = if begins_expr state then wanted.One place loosest_level else wanted.Nothing
+wants (front.Break span) place state = wanted.Nothing
+wants (front.Continue span) place state = wanted.Nothing
+wants (front.Print name newline bang opening text) place state = if takes_values text then wanted.Values CloseParen else wanted.Nothing
+wants (front.Panic name bang opening text closing) place state = wanted.Nothing
+wants (front.Assert name bang opening) place state = wanted.One Anywhere loosest_level
+wants (front.Unary operator at) place state = wanted.One place prefix_level
+wants (front.Borrow and kind) place state = wanted.One place prefix_level
 
 -- with nothing
 abbrev pub alone_at : Front → State → Option (Expr × State)
@@ -119,15 +121,15 @@ finished_at first (got.Chosen condition body otherwise) state = ends_at (chosen_
 
 -- Steps, behind a left operand.
 
-unfoldable pub step_wants : Bool → Step → Wanted
-step_wants bare (step.Field dot name) = wanted.Nothing
-step_wants bare (step.TupleField dot index) = wanted.Nothing
-step_wants bare (step.MethodCall dot name turbofish opening) = wanted.Values CloseParen
-step_wants bare (step.Index opening) = wanted.One true 13
-step_wants bare (step.Cast at ty) = wanted.Nothing
-step_wants bare (step.Binary operator at) = wanted.One bare (right_level operator)
-step_wants bare (step.Assign equals) = wanted.One bare 13
-step_wants bare (step.AssignOp operator at) = wanted.One bare 13
+unfoldable pub step_wants : Where → Step → Wanted
+step_wants place (step.Field dot name) = wanted.Nothing
+step_wants place (step.TupleField dot index) = wanted.Nothing
+step_wants place (step.MethodCall dot name turbofish opening) = wanted.Values CloseParen
+step_wants place (step.Index opening) = wanted.One Anywhere loosest_level
+step_wants place (step.Cast at ty) = wanted.Nothing
+step_wants place (step.Binary operator at) = wanted.One place (right_level operator)
+step_wants place (step.Assign equals) = wanted.One place loosest_level
+step_wants place (step.AssignOp operator at) = wanted.One place loosest_level
 
 -- with nothing
 abbrev pub step_alone : Expr → Step → Option Expr

@@ -2,6 +2,7 @@
 
 ghost use Rattle.std.specs.Prelude.{◌≡◌, ℕ, Bool, true, Option, Some};
 ghost use Rattle.tb_syntax.specs.State.{State};
+ghost use Rattle.tb_forms.specs.declared.place.Where.{Where};
 ghost use Rattle.tb_forms.specs.declared.front.Front.{Front};
 ghost use Rattle.tb_forms.specs.declared.step.Step.{Step};
 ghost use Rattle.tb_forms.specs.Beginnings.{begins_expr};
@@ -11,15 +12,15 @@ ghost use Rattle.tb_forms.specs.Steps.{step_at, step_level, operand_level, IsSte
 
 /// What operands begin with.
 pub fn law_fronts()
-    ensures takes { (depth : ℕ) (bare : Bool) (state : State) (front : Front) (rest : State) → front_at depth bare state ≡ Some (front, rest) → IsFrontAt depth bare state front rest }
-    ensures again { (depth : ℕ) (bare : Bool) (state : State) (front : Front) (rest : State) → IsFrontAt depth bare state front rest → front_at depth bare state ≡ Some (front, rest) }
-    ensures begins { (depth : ℕ) (bare : Bool) (state : State) (front : Front) (rest : State) → IsFrontAt depth bare state front rest → begins_expr state ≡ true }
+    ensures sound { (depth : ℕ) (place : Where) (state : State) (front : Front) (rest : State) → front_at depth place state ≡ Some (front, rest) → IsFrontAt depth place state front rest }
+    ensures complete { (depth : ℕ) (place : Where) (state : State) (front : Front) (rest : State) → IsFrontAt depth place state front rest → front_at depth place state ≡ Some (front, rest) }
+    ensures begins { (depth : ℕ) (place : Where) (state : State) (front : Front) (rest : State) → IsFrontAt depth place state front rest → begins_expr state ≡ true }
 {}
 
 /// How expressions go on.
 pub fn law_steps()
-    ensures takes { (depth : ℕ) (state : State) (step : Step) (rest : State) → step_at depth state ≡ Some (step, rest) → IsStepAt depth state step rest }
-    ensures again { (depth : ℕ) (state : State) (step : Step) (rest : State) → IsStepAt depth state step rest → step_at depth state ≡ Some (step, rest) }
+    ensures sound { (depth : ℕ) (state : State) (step : Step) (rest : State) → step_at depth state ≡ Some (step, rest) → IsStepAt depth state step rest }
+    ensures complete { (depth : ℕ) (state : State) (step : Step) (rest : State) → IsStepAt depth state step rest → step_at depth state ≡ Some (step, rest) }
     ensures levels { (depth : ℕ) (state : State) (step : Step) (rest : State) → IsStepAt depth state step rest → level_at state ≡ Some (step_level step) }
     ensures operands { (step : Step) → operand_level step ≡ loosest_left (step_level step) }
 {}

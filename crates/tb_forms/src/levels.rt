@@ -29,11 +29,29 @@ use tb_ast::{AssignOp, BinaryOp, Expr};
 use tb_lex::{Keyword, Punctuation};
 use tb_syntax::Cursor;
 
-/// The loosest level: an assignment.
-pub(crate) const LOOSEST: u32 = 13;
+/// Below all levels: an operand alone.
+pub const OPERAND_ALONE: u32 = 0;
 
-/// The level of what a prefix stands before.
-pub(crate) const PREFIX: u32 = 2;
+/// The level of what closes itself, and of `.` and `[` behind an operand.
+const TIGHTEST_LEVEL: u32 = 1;
+
+/// The level of a prefix, and of what it stands before.
+pub(crate) const PREFIX_LEVEL: u32 = 2;
+
+/// The level of `as`.
+const CAST_LEVEL: u32 = 3;
+
+/// The loosest level of what is compared.
+const COMPARED_LEVEL: u32 = 9;
+
+/// The level of comparisons.
+const COMPARISON_LEVEL: u32 = 10;
+
+/// The loosest level of what is assigned to.
+const TARGET_LEVEL: u32 = 12;
+
+/// The loosest level: an assignment.
+pub const LOOSEST_LEVEL: u32 = 13;
 
 /// The level of an operator between two operands.
 pub(crate) fn binary_level(operator: BinaryOp) -> u32
@@ -65,11 +83,11 @@ fn level_of(e: &Expr) -> u32
     ensures { result ≡ level_of e.now }
 {
     match e {
-        Expr::Unary { .. } | Expr::Borrow { .. } => 2,
-        Expr::Cast { .. } => 3,
+        Expr::Unary { .. } | Expr::Borrow { .. } => PREFIX_LEVEL,
+        Expr::Cast { .. } => CAST_LEVEL,
         Expr::Binary { operator, .. } => binary_level(*operator),
-        Expr::Assign { .. } | Expr::AssignOp { .. } => 13,
-        _ => 1,
+        Expr::Assign { .. } | Expr::AssignOp { .. } => LOOSEST_LEVEL,
+        _ => TIGHTEST_LEVEL,
     }
 }
 
@@ -124,12 +142,12 @@ fn mark_level(mark: Punctuation) -> Option<u32>
     ensures { result ≡ mark_level mark }
 {
     match mark {
-        Punctuation::Dot | Punctuation::OpenBracket => Some(1),
-        Punctuation::Eq => Some(13),
+        Punctuation::Dot | Punctuation::OpenBracket => Some(TIGHTEST_LEVEL),
+        Punctuation::Eq => Some(LOOSEST_LEVEL),
         other => match binary_of(other) {
             Some(operator) => Some(binary_level(operator)),
             None => match assign_of(other) {
-                Some(_) => Some(13),
+                Some(_) => Some(LOOSEST_LEVEL),
                 None => None,
             },
         },
@@ -141,11 +159,11 @@ fn mark_level(mark: Punctuation) -> Option<u32>
 fn loosest_left(level: u32) -> u32
     ensures { result ≡ loosest_left level }
 {
-    if level == 10 {
-        return 9;
+    if level == COMPARISON_LEVEL {
+        return COMPARED_LEVEL;
     }
-    if level == 13 {
-        return 12;
+    if level == LOOSEST_LEVEL {
+        return TARGET_LEVEL;
     }
     level
 }
@@ -171,7 +189,7 @@ fn level_at(cursor: &Cursor<'_>) -> Option<u32>
         Some((mark, _, _)) => mark_level(mark),
         None => {
             if cursor.has_keyword(Keyword::As) {
-                return Some(3);
+                return Some(CAST_LEVEL);
             }
             None
         }

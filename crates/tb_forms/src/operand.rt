@@ -9,6 +9,7 @@ use crate::borrow::borrow_front;
 use crate::front::Front;
 use crate::macros::macro_front;
 use crate::path::path_front;
+use crate::place::Where;
 use std::alloc::Global;
 use tb_ast::{BoolLiteral, ByteLiteral, CharLiteral, IntLiteral, Literal, Mark, UnaryOp};
 use tb_lex::{Keyword, Punctuation, TokenKind};
@@ -87,9 +88,9 @@ fn token_front<'a>(
     cursor: Cursor<'a>,
     alloc: Global,
     depth: u32,
-    bare: bool,
+    place: Where,
 ) -> Result<(Front, Cursor<'a>), ReadError>
-    ensures { Gives (λ x. x) result (token_front depth bare cursor.entry (token_at cursor.entry)) }
+    ensures { Gives (λ x. x) result (token_front depth place cursor.entry (token_at cursor.entry)) }
 {
     let Some((token, rest)) = cursor.next_token() else {
         return Err(ReadError::Unexpected);
@@ -109,7 +110,7 @@ fn token_front<'a>(
             return if rest.has_mark(Punctuation::Not) {
                 macro_front(cursor, alloc)
             } else {
-                path_front(cursor, alloc, depth, bare)
+                path_front(cursor, alloc, depth, place)
             };
         }
         _ => return Err(ReadError::Unexpected),
@@ -120,8 +121,8 @@ fn token_front<'a>(
 /// What stands before the first expression, block or list in the operand that comes next, and what
 /// follows it.
 ///
-/// `depth` is how many types may lie in one another in a `::<T>`. Where `bare` is not set, as in a
-/// condition, `{` behind a path opens no struct literal. Behind `&` the words `raw const` and `raw mut`
+/// `depth` is how many types may lie in one another in a `::<T>`. In a condition `{` behind a path opens
+/// no struct literal. Behind `&` the words `raw const` and `raw mut`
 /// make a raw borrow, and `raw` alone is a name.
 ///
 /// # Errors
@@ -132,12 +133,12 @@ pub fn read_front<'a>(
     cursor: Cursor<'a>,
     alloc: Global,
     depth: u32,
-    bare: bool,
+    place: Where,
 ) -> Result<(Front, Cursor<'a>), ReadError>
-    ensures gives { Gives (λ x. x) result (front_at depth bare cursor.entry) }
+    ensures gives { Gives (λ x. x) result (front_at depth place cursor.entry) }
 {
     match cursor.first_mark() {
         Some((mark, at, rest)) => marked_front(cursor, mark, at, rest),
-        None => token_front(cursor, alloc, depth, bare),
+        None => token_front(cursor, alloc, depth, place),
     }
 }

@@ -5,6 +5,7 @@ ghost use Rattle.tb_syntax.specs.Reading.{Gives};
 ghost use Rattle.tb_forms.specs.Fronts.{path_span, expr_path_at, opens_literal, path_goes_on, path_front_at};
 
 use crate::front::Front;
+use crate::place::Where;
 use std::alloc::Global;
 use tb_ast::{ExprPath, Path, Turbofish};
 use tb_lex::Punctuation;
@@ -41,30 +42,30 @@ fn expr_path<'a>(
     Ok((path, rest))
 }
 
-/// Whether `{` comes next, and opens a struct literal behind a path, where one may stand bare.
-fn opens_literal(cursor: &Cursor<'_>, bare: bool, turbofish: &Option<Turbofish>) -> bool
-    ensures { result ≡ opens_literal bare turbofish.now cursor.now }
+/// Whether `{` comes next, and opens a struct literal behind a path in this place.
+fn opens_literal(cursor: &Cursor<'_>, place: Where, turbofish: &Option<Turbofish>) -> bool
+    ensures { result ≡ opens_literal place turbofish.now cursor.now }
 {
-    match turbofish {
-        None => bare && cursor.has_mark(Punctuation::OpenBrace),
-        Some(_) => false,
+    match place {
+        Where::Anywhere => turbofish.is_none() && cursor.has_mark(Punctuation::OpenBrace),
+        Where::Condition => false,
     }
 }
 
 /// A call, a struct literal, or the path alone.
 fn path_goes_on<'a>(
     cursor: Cursor<'a>,
-    bare: bool,
+    place: Where,
     path: ExprPath,
 ) -> Result<(Front, Cursor<'a>), ReadError>
-    ensures { Gives (λ x. x) result (path_goes_on bare path cursor.entry) }
+    ensures { Gives (λ x. x) result (path_goes_on place path cursor.entry) }
 {
     if cursor.has_mark(Punctuation::OpenParen) {
         let (opening, rest) = cursor.punct(Punctuation::OpenParen)?;
         let callee = path;
         return Ok((Front::Call { callee, opening }, rest));
     }
-    if opens_literal(&cursor, bare, &path.turbofish) {
+    if opens_literal(&cursor, place, &path.turbofish) {
         let (opening, rest) = cursor.punct(Punctuation::OpenBrace)?;
         let ExprPath { path, .. } = path;
         return Ok((Front::StructLiteral { path, opening }, rest));
@@ -78,10 +79,10 @@ pub(crate) fn path_front<'a>(
     cursor: Cursor<'a>,
     alloc: Global,
     depth: u32,
-    bare: bool,
+    place: Where,
 ) -> Result<(Front, Cursor<'a>), ReadError>
-    ensures { Gives (λ x. x) result (path_front_at depth bare cursor.entry) }
+    ensures { Gives (λ x. x) result (path_front_at depth place cursor.entry) }
 {
     let (path, rest) = expr_path(cursor, alloc, depth)?;
-    path_goes_on(rest, bare, path)
+    path_goes_on(rest, place, path)
 }

@@ -1,5 +1,6 @@
 //! What a form wants to be read behind its first part, and what was read there.
 
+use crate::place::Where;
 use sqlite_items::{Boxed, Items};
 use tb_ast::{Block, Else, Expr, FieldValue};
 use tb_lex::Punctuation;
@@ -10,8 +11,8 @@ use tb_perm::Span;
 pub enum Wanted {
     /// Nothing: it is whole, or ends with a mark.
     Nothing,
-    /// An expression up to a level, in which a struct literal may stand bare or not.
-    One { bare: bool, most: u32 },
+    /// An expression up to a level, in such a place.
+    One { place: Where, most: u32 },
     /// Expressions with commas between them, up to a mark.
     Values { close: Punctuation },
     /// The fields of a struct literal, up to `}`.

@@ -5,7 +5,8 @@ ghost use Rattle.tb_forms.specs.Wants.{takes_values, wants, step_wants};
 
 use crate::beginning::begins_expr;
 use crate::front::Front;
-use crate::levels::{LOOSEST, PREFIX, right_level};
+use crate::levels::{LOOSEST_LEVEL, PREFIX_LEVEL, right_level};
+use crate::place::Where;
 use crate::step::Step;
 use crate::wanted::Wanted;
 use tb_ast::PrintText;
@@ -25,11 +26,11 @@ fn takes_values(text: &Option<PrintText>) -> bool
 impl Front {
     /// What an operand that begins so wants to be read next.
     ///
-    /// Where `bare` is not set, as in a condition, no struct literal may stand bare in it. `return` takes
-    /// an expression where one begins.
+    /// In a condition its operand and what `return` gives stand in the condition too. `return` takes an
+    /// expression where one begins.
     #[tactic(auto, unfolding(crate::specs::Wants::wants))]
-    pub fn wants(&self, cursor: &Cursor<'_>, bare: bool) -> Wanted
-        ensures wants { result ≡ wants self.now bare cursor.now }
+    pub fn wants(&self, cursor: &Cursor<'_>, place: Where) -> Wanted
+        ensures wants { result ≡ wants self.now place cursor.now }
     {
         match self {
             Front::StructLiteral { .. } => Wanted::Fields,
@@ -45,8 +46,8 @@ impl Front {
             Front::Return { .. } => {
                 if begins_expr(cursor) {
                     return Wanted::One {
-                        bare,
-                        most: LOOSEST,
+                        place,
+                        most: LOOSEST_LEVEL,
                     };
                 }
                 Wanted::Nothing
@@ -60,37 +61,39 @@ impl Front {
                 Wanted::Nothing
             }
             Front::Assert { .. } => Wanted::One {
-                bare: true,
-                most: LOOSEST,
+                place: Where::Anywhere,
+                most: LOOSEST_LEVEL,
             },
-            Front::Unary { .. } | Front::Borrow { .. } => Wanted::One { bare, most: PREFIX },
+            Front::Unary { .. } | Front::Borrow { .. } => Wanted::One {
+                place,
+                most: PREFIX_LEVEL,
+            },
             _ => Wanted::Nothing,
         }
     }
 }
 
 impl Step {
-    /// What a step that begins so wants to be read next, in a place where a struct literal may stand bare
-    /// or not.
+    /// What a step that begins so wants to be read next, behind an operand that stands in this place.
     #[tactic(auto, unfolding(crate::specs::Wants::step_wants))]
-    pub fn wants(&self, bare: bool) -> Wanted
-        ensures wants { result ≡ step_wants bare self.now }
+    pub fn wants(&self, place: Where) -> Wanted
+        ensures wants { result ≡ step_wants place self.now }
     {
         match self {
             Step::MethodCall { .. } => Wanted::Values {
                 close: Punctuation::CloseParen,
             },
             Step::Index { .. } => Wanted::One {
-                bare: true,
-                most: LOOSEST,
+                place: Where::Anywhere,
+                most: LOOSEST_LEVEL,
             },
             Step::Binary { operator, .. } => Wanted::One {
-                bare,
+                place,
                 most: right_level(*operator),
             },
             Step::Assign { .. } | Step::AssignOp { .. } => Wanted::One {
-                bare,
-                most: LOOSEST,
+                place,
+                most: LOOSEST_LEVEL,
             },
             _ => Wanted::Nothing,
         }

@@ -27,6 +27,8 @@ use Rattle.tb_ast.specs.Files.{inner_row, word_list, attribute_row, use_row, gro
 use Rattle.tb_syntax.specs.State.{State, IsPart, Begins, Stands}
 use Rattle.tb_syntax.specs.Items.{head_row}
 use Rattle.tb_syntax.proofs.Chains.{stands-split, stands-one}
+use Rattle.tb_forms.specs.declared.place.Where.TheVariants.{Anywhere, Condition}
+use Rattle.tb_forms.specs.Levels.{loosest_level}
 use Rattle.tb_expr.specs.Grammar.{IsWholeAt, IsBlockyAt, ABlock, AnUnsafe, AWhile, ALoop, AnIf, IsIfAt, If, IsElseAt, NoElse, ElseBlock, ElseIf, IsBlockAt, Braced, IsStmtAt, EmptyStmt, LetStmt, PlainStmt, BlockyStmt}
 use Rattle.tb_expr.proofs.SpelledRows.{pieces_if}
 use Rattle.tb_expr.proofs.Spelled.{whole-spelled, block-spelled, lines-spelled, initializer-spelled}
@@ -84,17 +86,17 @@ module _ (source : State) where
       let opened = begins-tail (punct OpenBrace opening) state a first t in
       closes CloseBrace closing b rest (λ left. refl) end (stands-tail (pieces_if expr_pieces last) l.middle b l.value (stands-tail (in_order (map stmt_pieces statements)) a l.middle l.first opened))
 
-  condition-tail : (state : State) (e : Expr) (rest : State) → IsWholeAt false 13 state e rest → Tail state → Tail rest
-  condition-tail state e rest h t = stands-tail (expr_pieces e) state rest (whole-spelled false 13 state e rest h) t
+  condition-tail : (state : State) (e : Expr) (rest : State) → IsWholeAt Condition loosest_level state e rest → Tail state → Tail rest
+  condition-tail state e rest h t = stands-tail (expr_pieces e) state rest (whole-spelled Condition loosest_level state e rest h) t
 
   block-tail : (state : State) (body : Block) (rest : State) → IsBlockAt state body rest → Tail state → Tail rest
   block-tail state body rest h t = stands-tail (block_pieces body) state rest (block-spelled state body rest h) t
 
-  pub branch-suffix : (at : Span) (condition : Expr) (body : Block) (state a b rest : State) → Begins (keyword keyword_of.If at) state a → IsWholeAt false 13 a condition b → IsBlockAt b body rest → Tail state → IsSuffix source rest
+  pub branch-suffix : (at : Span) (condition : Expr) (body : Block) (state a b rest : State) → Begins (keyword keyword_of.If at) state a → IsWholeAt Condition loosest_level a condition b → IsBlockAt b body rest → Tail state → IsSuffix source rest
   branch-suffix at condition body state a b rest first one inside t =
       block-suffix b body rest inside (condition-tail a condition b one (begins-tail (keyword keyword_of.If at) state a first t))
 
-  branch-tail : (at : Span) (condition : Expr) (body : Block) (state a b rest : State) → Begins (keyword keyword_of.If at) state a → IsWholeAt false 13 a condition b → IsBlockAt b body rest → Tail state → Tail rest
+  branch-tail : (at : Span) (condition : Expr) (body : Block) (state a b rest : State) → Begins (keyword keyword_of.If at) state a → IsWholeAt Condition loosest_level a condition b → IsBlockAt b body rest → Tail state → Tail rest
   branch-tail at condition body state a b rest first one inside t =
       block-tail b body rest inside (condition-tail a condition b one (begins-tail (keyword keyword_of.If at) state a first t))
 
@@ -131,7 +133,7 @@ module _ (source : State) where
       let t5 = stands-tail (pieces_if initializer_pieces value) d e (initializer-spelled d value e inside) t4 in
       closes Semicolon semicolon e rest (λ left. refl) last t5
   stmt-suffix state s rest (PlainStmt e semicolon a other h last) t =
-      closes Semicolon semicolon a rest (λ left. refl) last (stands-tail (expr_pieces e) state a (whole-spelled true 13 state e a h) t)
+      closes Semicolon semicolon a rest (λ left. refl) last (stands-tail (expr_pieces e) state a (whole-spelled Anywhere loosest_level state e a h) t)
   stmt-suffix state s rest (BlockyStmt e h stop) t = blocky-suffix state e rest h t
 
   use-suffix : (u : Use) (state rest : State) → Stands (use_row u) state rest → Tail state → IsSuffix source rest

@@ -17,6 +17,8 @@ use Rattle.tb_syntax.specs.Marks.{has_mark}
 use Rattle.tb_syntax.proofs.Tokens.{token-no-mark}
 use Rattle.tb_syntax.proofs.Marks.{other-mark}
 use Rattle.tb_syntax.proofs.Listed.{begins-has}
+use Rattle.tb_forms.specs.declared.place.Where.TheVariants.{Anywhere}
+use Rattle.tb_forms.specs.Levels.{loosest_level}
 use Rattle.tb_forms.proofs.Begins.{begins-no-brace}
 use Rattle.tb_expr.specs.declared.lines.Line.{Line}
 use Rattle.tb_expr.specs.declared.lines.Line.TheVariants as line
@@ -35,11 +37,11 @@ not-both false e f = absurd cc
 
 -- Nothing of a body begins with `}`.
 
-whole-no-brace : (state : State) (e : Expr) (rest : State) → IsWholeAt true 13 state e rest → has_mark CloseBrace state ≡ false
-whole-no-brace state e rest (AWhole x h fits stop) = begins-no-brace state (expr-begins true state x rest h)
+whole-no-brace : (state : State) (e : Expr) (rest : State) → IsWholeAt Anywhere loosest_level state e rest → has_mark CloseBrace state ≡ false
+whole-no-brace state e rest (AWhole x h fits stop) = begins-no-brace state (expr-begins Anywhere state x rest h)
 
 blocky-no-brace : (state : State) (e : Expr) (rest : State) → IsBlockyAt state e rest → has_mark CloseBrace state ≡ false
-blocky-no-brace state e rest h = begins-no-brace state (expr-begins true state e rest (ABlocky e h))
+blocky-no-brace state e rest h = begins-no-brace state (expr-begins Anywhere state e rest (ABlocky e h))
 
 stmt-no-brace : (state : State) (s : Stmt) (rest : State) → IsStmtAt state s rest → has_mark CloseBrace state ≡ false
 stmt-no-brace state s rest (EmptyStmt span h) = other-mark Semicolon CloseBrace (record { span = span; glued = false }) state rest refl h

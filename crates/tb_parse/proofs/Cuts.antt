@@ -21,8 +21,11 @@ use Rattle.tb_syntax.specs.Marks.{has_mark}
 use Rattle.tb_syntax.specs.Leaves.{has_keyword, keyword_at}
 use Rattle.tb_syntax.proofs.Options.{some_is}
 use Rattle.tb_syntax.proofs.Chains.{begins-shrinks}
-use Rattle.tb_syntax.proofs.Tokens.{token-no-mark, keyword-again, keyword_self}
+use Rattle.tb_syntax.proofs.Tokens.{token-no-mark, keyword-complete, keyword_self}
 use Rattle.tb_syntax.proofs.Listed.{begins-has}
+use Rattle.tb_forms.specs.declared.place.Where.TheVariants.{Anywhere, Condition}
+use Rattle.tb_forms.specs.declared.place.Where.TheVariants.{Condition}
+use Rattle.tb_forms.specs.Levels.{loosest_level}
 use Rattle.tb_forms.specs.declared.front.Front.TheVariants as front
 use Rattle.tb_forms.specs.Beginnings.{begins_blocky}
 use Rattle.tb_forms.specs.Trees.{if_to}
@@ -30,7 +33,7 @@ use Rattle.tb_forms.proofs.Begins.{front-blocks}
 use Rattle.tb_expr.specs.declared.lines.Line.{Line}
 use Rattle.tb_expr.specs.declared.lines.Line.TheVariants as line
 use Rattle.tb_expr.specs.Grammar.{IsWholeAt, IsBlockyAt, ABlock, AnUnsafe, AWhile, ALoop, AnIf, IsIfAt, If, IsElseAt, NoElse, ElseBlock, ElseIf, IsBlockAt, Braced, IsValueAt, BlockyValue, PlainValue, IsStmtAt, EmptyStmt, LetStmt, PlainStmt, BlockyStmt, IsLineAt}
-use Rattle.tb_expr.proofs.AgainDepths.{expr-roll, else-roll, expr-some}
+use Rattle.tb_expr.proofs.CompleteDepths.{expr-roll, else-roll, expr-some}
 use Rattle.tb_expr.proofs.Shrinks.{whole-shrinks, block-shrinks, else-shrinks}
 use Rattle.tb_expr.proofs.Ways.{one-whole, one-block}
 use Rattle.tb_parse.specs.Fronts.{IsCutIfAt, CutIf, CutElse, BranchTo, ElseTo, CutTo, NoneTo, IsLongest}
@@ -54,7 +57,7 @@ word-and-mark word mark span at state rest after h k =
 -- a keyword stands in one way
 pub one-word : (word : Keyword) (span at : Span) (state rest after : State) → Begins (keyword word span) state rest → Begins (keyword word at) state after → rest ≡ after
 one-word word span at state rest after h k =
-    let same : ◌≡◌ {A = Span × State} (span, rest) (at, after) = some_is (span, rest) (at, after) (sym (keyword-again word state span rest h) ∙ keyword-again word state at after k) in
+    let same : ◌≡◌ {A = Span × State} (span, rest) (at, after) = some_is (span, rest) (at, after) (sym (keyword-complete word state span rest h) ∙ keyword-complete word state at after k) in
     ap (λ z. z.1) same
 
 -- Where a cut `if` stands, a line is an `if`.
@@ -73,7 +76,7 @@ pub cut-no-mark : (mark : Punctuation) (state : State) (e : Expr) (rest : State)
 cut-no-mark mark state e rest h = let f = cut-first state e rest h in token-no-mark (kind.Keyword keyword_of.If) mark f.at state f.after refl f.begins
 
 first-blocky : (state : State) → IfFirst state → begins_blocky state ≡ true
-first-blocky state f = front-blocks 0 true state (front.If f.at) f.after f.begins
+first-blocky state f = front-blocks 0 Anywhere state (front.If f.at) f.after f.begins
 
 record IfHere (state rest : State) : Type 0 where
   e : Expr
@@ -121,13 +124,13 @@ else-over-cut state otherwise rest word d after second f over (ElseIf at branch 
 if-over-cut : (state : State) (e : Expr) (rest : State) (other : Expr) (after : State) → IsCutIfAt state other after → IsIfAt state e rest → length rest ≤ length after
 if-over-cut state e rest other after (CutIf at condition body a b first one inside follows) (If at_too condition_too body_too otherwise x y z first_too one_too inside_too more) =
     let same = one-word keyword_of.If at_too at state x a first_too first in
-    let conditions = one-whole false 13 a condition_too y condition b (omega arith) (subst (λ s. IsWholeAt false 13 s condition_too y) same one_too) one in
+    let conditions = one-whole Condition loosest_level a condition_too y condition b (omega arith) (subst (λ s. IsWholeAt Condition loosest_level s condition_too y) same one_too) one in
     let blocks = one-block b body_too z body after (subst (λ s. IsBlockAt s body_too z) conditions.1 inside_too) inside in
     let less : length rest ≤ length z = else-shrinks z otherwise rest more in
     subst (λ s. length rest ≤ length s) blocks.1 less
 if-over-cut state e rest other after (CutElse at condition body word branch a b c d first one inside second cut) (If at_too condition_too body_too otherwise x y z first_too one_too inside_too more) =
     let same = one-word keyword_of.If at_too at state x a first_too first in
-    let conditions = one-whole false 13 a condition_too y condition b (omega arith) (subst (λ s. IsWholeAt false 13 s condition_too y) same one_too) one in
+    let conditions = one-whole Condition loosest_level a condition_too y condition b (omega arith) (subst (λ s. IsWholeAt Condition loosest_level s condition_too y) same one_too) one in
     let blocks = one-block b body_too z body c (subst (λ s. IsBlockAt s body_too z) conditions.1 inside_too) inside in
     else-over-cut c otherwise rest word d after second (cut-first d branch after cut) (λ x end is. if-over-cut d x end branch after cut is) (subst (λ s. IsElseAt s otherwise rest) blocks.1 more)
 
@@ -137,12 +140,12 @@ line-over-cut state l rest other after is cut = let h = line-if state l rest (cu
 pub cut-shrinks : (state : State) (e : Expr) (rest : State) → IsCutIfAt state e rest → length rest < length state
 cut-shrinks state e rest (CutIf at condition body a b first one inside follows) =
     let x = begins-shrinks (keyword keyword_of.If at) state a first in
-    let y = whole-shrinks false 13 a condition b one in
+    let y = whole-shrinks Condition loosest_level a condition b one in
     let z = block-shrinks b body rest inside in
     omega arith
 cut-shrinks state e rest (CutElse at condition body word branch a b c d first one inside second more) =
     let x = begins-shrinks (keyword keyword_of.If at) state a first in
-    let y = whole-shrinks false 13 a condition b one in
+    let y = whole-shrinks Condition loosest_level a condition b one in
     let z = block-shrinks b body c inside in
     let w = begins-shrinks (keyword keyword_of.Else word) c d second in
     let v = cut-shrinks d branch rest more in
@@ -211,7 +214,7 @@ no-cut state rest cut = let some = cut-some state cut.0 rest cut.1 in let less =
 pub one-branch : (depth : ℕ) (state rest after : State) → BranchTo depth state rest → BranchTo depth state after → rest ≡ after
 one-branch depth state rest after x y =
     let same = one-word keyword_of.If x.at y.at state x.a y.a x.begins y.begins in
-    let conditions = one-whole false 13 y.a x.condition.0 x.b y.condition.0 y.b (omega arith) (subst (λ s. IsWholeAt false 13 s x.condition.0 x.b) same x.condition.1) y.condition.1 in
+    let conditions = one-whole Condition loosest_level y.a x.condition.0 x.b y.condition.0 y.b (omega arith) (subst (λ s. IsWholeAt Condition loosest_level s x.condition.0 x.b) same x.condition.1) y.condition.1 in
     let blocks = one-block y.b x.body.0 rest y.body.0 after (subst (λ s. IsBlockAt s x.body.0 rest) conditions.1 x.body.1) y.body.1 in
     blocks.1
 
@@ -233,7 +236,7 @@ cuts-start start = record { back = λ after c. c; on = λ after c. inr c; here =
 branch-shrinks : (depth : ℕ) (state rest : State) → BranchTo depth state rest → length rest < length state
 branch-shrinks depth state rest x =
     let a = begins-shrinks (keyword keyword_of.If x.at) state x.a x.begins in
-    let b = whole-shrinks false 13 x.a x.condition.0 x.b x.condition.1 in
+    let b = whole-shrinks Condition loosest_level x.a x.condition.0 x.b x.condition.1 in
     let c = block-shrinks x.b x.body.0 rest x.body.1 in
     omega arith
 

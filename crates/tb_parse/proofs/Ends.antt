@@ -19,8 +19,10 @@ use Rattle.tb_syntax.specs.State.{State, Begins, Stands, piece_of}
 use Rattle.tb_syntax.specs.Leaves.{passes, token_at, is_keyword, keyword_at, has_keyword}
 use Rattle.tb_syntax.specs.Attributes.{inner_at, IsInner}
 use Rattle.tb_syntax.proofs.Options.{some_is}
-use Rattle.tb_syntax.proofs.Tokens.{keyword-takes, keyword-again}
-use Rattle.tb_syntax.proofs.Attributed.{inner-takes, inner-again}
+use Rattle.tb_syntax.proofs.Tokens.{keyword-sound, keyword-complete}
+use Rattle.tb_syntax.proofs.Attributed.{inner-sound, inner-complete}
+use Rattle.tb_forms.specs.declared.place.Where.TheVariants.{Condition}
+use Rattle.tb_forms.specs.Levels.{loosest_level}
 use Rattle.tb_expr.specs.declared.lines.Line.{Line}
 use Rattle.tb_expr.specs.declared.lines.Line.TheVariants as line
 use Rattle.tb_expr.specs.Grammar.{IsWholeAt, IsBlockAt, IsStmtAt, IsValueAt, IsLineAt, line_depth}
@@ -29,7 +31,7 @@ use Rattle.tb_parse.specs.Files.{item_at}
 use Rattle.tb_parse.specs.Trees.{IsItemAt}
 use Rattle.tb_parse.specs.Fronts.{IsSuffix, NoneTo, InnerTo, ItemTo, StatementTo, ConditionTo, BlockTo, BranchTo, ElseTo}
 use Rattle.tb_parse.proofs.Aligned.{whole-tail, suffix-length, stmt-suffix, branch-suffix, item-suffix, inner-suffix, word-suffix}
-use Rattle.tb_parse.proofs.Whole.{item-takes, item-again, item-shorter, item-one}
+use Rattle.tb_parse.proofs.Whole.{item-sound, item-complete, item-shorter, item-one}
 use Rattle.tb_parse.proofs.OneFile.{inner-shorter}
 use Rattle.tb_parse.proofs.BodyFronts.{statement-shorter}
 use Rattle.tb_parse.proofs.Cuts.{one-word}
@@ -88,15 +90,15 @@ told-deep n d h within = omega arith
 
 -- Conditions and blocks.
 
-pub condition-found : (depth : ℕ) (state : State) (e : Expr) (rest : State) → depth ≤ 126 → IsWholeAt false 13 state e rest → capped (expr_depth e) ≤ depth → ConditionTo depth state rest
+pub condition-found : (depth : ℕ) (state : State) (e : Expr) (rest : State) → depth ≤ 126 → IsWholeAt Condition loosest_level state e rest → capped (expr_depth e) ≤ depth → ConditionTo depth state rest
 condition-found depth state e rest small is told = (e, is, told-within (expr_depth e) depth told (omega arith))
 
-pub condition-deep : (depth : ℕ) (state : State) (e : Expr) (rest : State) → IsWholeAt false 13 state e rest → depth < capped (expr_depth e) → NoneTo (ConditionTo depth state)
+pub condition-deep : (depth : ℕ) (state : State) (e : Expr) (rest : State) → IsWholeAt Condition loosest_level state e rest → depth < capped (expr_depth e) → NoneTo (ConditionTo depth state)
 condition-deep depth state e rest is deep other c =
-    let same = one-whole false 13 state c.0 other e rest (omega arith) c.1 is in
+    let same = one-whole Condition loosest_level state c.0 other e rest (omega arith) c.1 is in
     told-deep (expr_depth e) depth deep (subst (λ x. expr_depth x ≤ depth) same.0 c.2)
 
-pub condition-refused : (depth : ℕ) (state : State) → ((e : Expr) (rest : State) → IsWholeAt false 13 state e rest → depth < expr_depth e) → NoneTo (ConditionTo depth state)
+pub condition-refused : (depth : ℕ) (state : State) → ((e : Expr) (rest : State) → IsWholeAt Condition loosest_level state e rest → depth < expr_depth e) → NoneTo (ConditionTo depth state)
 condition-refused depth state refused rest c = let less = refused c.0 rest c.1 in let within = c.2 in absurd (omega arith)
 
 pub block-found : (depth : ℕ) (state : State) (body : Block) (rest : State) → depth ≤ 126 → IsBlockAt state body rest → capped (block_depth body) ≤ depth → BlockTo depth state rest
@@ -117,21 +119,21 @@ nothing None y none some = absurd cc
 nothing (Some x) y none some = absurd cc
 
 pub branch-found : (depth : ℕ) (state : State) (at : Span) (a b rest : State) → keyword_at keyword_of.If state ≡ Some (at, a) → ConditionTo depth a b → BlockTo depth b rest → BranchTo depth state rest
-branch-found depth state at a b rest read condition body = record { at = at; a = a; b = b; begins = keyword-takes keyword_of.If state at a read; condition = condition; body = body }
+branch-found depth state at a b rest read condition body = record { at = at; a = a; b = b; begins = keyword-sound keyword_of.If state at a read; condition = condition; body = body }
 
 pub branch-wordless : (depth : ℕ) (state : State) → keyword_at keyword_of.If state ≡ None → NoneTo (BranchTo depth state)
-branch-wordless depth state none rest x = nothing (keyword_at keyword_of.If state) (x.at, x.a) none (keyword-again keyword_of.If state x.at x.a x.begins)
+branch-wordless depth state none rest x = nothing (keyword_at keyword_of.If state) (x.at, x.a) none (keyword-complete keyword_of.If state x.at x.a x.begins)
 
 pub branch-conditionless : (depth : ℕ) (state : State) (at : Span) (a : State) → keyword_at keyword_of.If state ≡ Some (at, a) → NoneTo (ConditionTo depth a) → NoneTo (BranchTo depth state)
 branch-conditionless depth state at a read none rest x =
-    let same = one-word keyword_of.If x.at at state x.a a x.begins (keyword-takes keyword_of.If state at a read) in
+    let same = one-word keyword_of.If x.at at state x.a a x.begins (keyword-sound keyword_of.If state at a read) in
     none x.b (subst (λ s. ConditionTo depth s x.b) same x.condition)
 
 pub branch-blockless : (depth : ℕ) (state : State) (at : Span) (a b : State) → keyword_at keyword_of.If state ≡ Some (at, a) → ConditionTo depth a b → NoneTo (BlockTo depth b) → NoneTo (BranchTo depth state)
 branch-blockless depth state at a b read condition none rest x =
-    let same = one-word keyword_of.If x.at at state x.a a x.begins (keyword-takes keyword_of.If state at a read) in
+    let same = one-word keyword_of.If x.at at state x.a a x.begins (keyword-sound keyword_of.If state at a read) in
     let there : ConditionTo depth a x.b = subst (λ s. ConditionTo depth s x.b) same x.condition in
-    let conditions = one-whole false 13 a there.0 x.b condition.0 b (omega arith) there.1 condition.1 in
+    let conditions = one-whole Condition loosest_level a there.0 x.b condition.0 b (omega arith) there.1 condition.1 in
     none rest (subst (λ s. BlockTo depth s rest) conditions.1 x.body)
 
 pub branch-aligned : (depth : ℕ) (state rest : State) → BranchTo depth state rest → IsSuffix state rest
@@ -140,10 +142,10 @@ branch-aligned depth state rest x = branch-suffix state x.at x.condition.0 x.bod
 -- `else`
 
 pub else-found : (state : State) (word : Span) (rest : State) → keyword_at keyword_of.Else state ≡ Some (word, rest) → ElseTo state rest
-else-found state word rest read = (word, keyword-takes keyword_of.Else state word rest read)
+else-found state word rest read = (word, keyword-sound keyword_of.Else state word rest read)
 
 pub else-aligned : (state : State) (word : Span) (rest : State) → keyword_at keyword_of.Else state ≡ Some (word, rest) → IsSuffix state rest
-else-aligned state word rest read = word-suffix keyword_of.Else word state rest (keyword-takes keyword_of.Else state word rest read)
+else-aligned state word rest read = word-suffix keyword_of.Else word state rest (keyword-sound keyword_of.Else state word rest read)
 
 -- what a token is as this keyword
 abbrev read_word : Option (Token × State) → Option (Span × State)
@@ -205,13 +207,13 @@ statement-less tokens left s = shorter-tokens tokens left (statement-shorter (ma
 -- Attributes of the file.
 
 pub inner-found : (state : State) (x : InnerAttribute) (rest : State) → inner_at state ≡ Some (x, rest) → Stands (inner_row x) state rest × IsInner x
-inner-found state x rest read = inner-takes state x rest read
+inner-found state x rest read = inner-sound state x rest read
 
 pub inner-aligned : (state : State) (x : InnerAttribute) (rest : State) → inner_at state ≡ Some (x, rest) → IsSuffix state rest
-inner-aligned state x rest read = inner-suffix state state x rest (inner-takes state x rest read).0 (whole-tail state)
+inner-aligned state x rest read = inner-suffix state state x rest (inner-sound state x rest read).0 (whole-tail state)
 
 pub inner-none : (state : State) → inner_at state ≡ None → NoneTo (InnerTo state)
-inner-none state none rest x = nothing (inner_at state) (x.0, rest) none (inner-again state x.0 rest x.2 x.1)
+inner-none state none rest x = nothing (inner_at state) (x.0, rest) none (inner-complete state x.0 rest x.2 x.1)
 
 pub inner-less : (tokens left : List Token) (x : InnerAttribute) → Stands (inner_row x) (map piece_of tokens) (map piece_of left) → length left < length tokens
 inner-less tokens left x h = shorter-tokens tokens left (inner-shorter (map piece_of tokens) x (map piece_of left) h)
@@ -219,18 +221,18 @@ inner-less tokens left x h = shorter-tokens tokens left (inner-shorter (map piec
 -- Items.
 
 pub item-found : (state : State) (x : Item) (rest : State) → item_at 127 state ≡ Some (x, rest) → capped (item_depth x) ≤ 128 → IsItemAt state x rest × (item_depth x ≤ 128)
-item-found state x rest read told = (item-takes 127 state x rest read, told-within (item_depth x) 128 told (omega arith))
+item-found state x rest read told = (item-sound 127 state x rest read, told-within (item_depth x) 128 told (omega arith))
 
 pub item-aligned : (state : State) (x : Item) (rest : State) → item_at 127 state ≡ Some (x, rest) → IsSuffix state rest
-item-aligned state x rest read = item-suffix state state x rest (item-takes 127 state x rest read) (whole-tail state)
+item-aligned state x rest read = item-suffix state state x rest (item-sound 127 state x rest read) (whole-tail state)
 
 pub item-deep : (state : State) (x : Item) (rest : State) → item_at 127 state ≡ Some (x, rest) → 128 < capped (item_depth x) → NoneTo (ItemTo state)
 item-deep state x rest read deep other y =
-    let same = item-one state y.0 other x rest y.1 (item-takes 127 state x rest read) in
+    let same = item-one state y.0 other x rest y.1 (item-sound 127 state x rest read) in
     told-deep (item_depth x) 128 deep (subst (λ z. item_depth z ≤ 128) same.0 y.2)
 
 pub item-none : (state : State) → item_at 127 state ≡ None → NoneTo (ItemTo state)
-item-none state none rest y = nothing (item_at 127 state) (y.0, rest) none (item-again state y.0 rest y.1 127 y.2)
+item-none state none rest y = nothing (item_at 127 state) (y.0, rest) none (item-complete state y.0 rest y.1 127 y.2)
 
 pub item-less : (tokens left : List Token) (x : Item) → IsItemAt (map piece_of tokens) x (map piece_of left) → length left < length tokens
 item-less tokens left x is = shorter-tokens tokens left (item-shorter (map piece_of tokens) x (map piece_of left) is)

@@ -12,7 +12,7 @@ use Rattle.tb_syntax.specs.State.{State, Begins, Stands}
 use Rattle.tb_syntax.specs.Marks.{has_mark}
 use Rattle.tb_syntax.specs.Leaves.{has_keyword, keyword_at}
 use Rattle.tb_syntax.proofs.Chains.{stands-shrinks}
-use Rattle.tb_syntax.proofs.Tokens.{token-again, token-no-mark, token-shorter, keyword-again}
+use Rattle.tb_syntax.proofs.Tokens.{token-complete, token-no-mark, token-shorter, keyword-complete}
 use Rattle.tb_parse.specs.Files.{is_extern, begins_extern}
 
 abbrev pub same_word : Keyword → Keyword → Bool
@@ -21,11 +21,11 @@ same_word found wanted = (keyword_law.ghosts).eq found wanted
 -- which keywords come next where one stands
 pub keyword-has : (word wanted : Keyword) (span : Span) (state rest : State) → Begins (keyword word span) state rest → has_keyword wanted state ≡ same_word word wanted
 unfolding has_keyword
-keyword-has word wanted span state rest h = rw (token-again (kind.Keyword word) span state rest refl h) refl
+keyword-has word wanted span state rest h = rw (token-complete (kind.Keyword word) span state rest refl h) refl
 
 pub keyword-missing : (word wanted : Keyword) (span : Span) (state rest : State) → Begins (keyword word span) state rest → same_word word wanted ≡ false → keyword_at wanted state ≡ None
 unfolding keyword_at
-keyword-missing word wanted span state rest h e = rw (token-again (kind.Keyword word) span state rest refl h) (rw e refl)
+keyword-missing word wanted span state rest h e = rw (token-complete (kind.Keyword word) span state rest refl h) (rw e refl)
 
 -- a keyword that may stand before another
 module _ (word : Keyword) (others : List Piece) (span : Span) where
@@ -57,7 +57,7 @@ or-with a b x y p q = rw (p, q) refl
 extern-unsafe : (word : Keyword) (span first : Span) (state middle after : State) → Begins (keyword keyword_of.Unsafe first) state middle → Begins (keyword word span) middle after
     → is_extern (keyword_at keyword_of.Unsafe state) ≡ same_word word keyword_of.Extern
 extern-unsafe word span first state middle after a b =
-    ap is_extern (keyword-again keyword_of.Unsafe state first middle a) ∙ keyword-has word keyword_of.Extern span middle after b
+    ap is_extern (keyword-complete keyword_of.Unsafe state first middle a) ∙ keyword-has word keyword_of.Extern span middle after b
 
 extern-alone : (word : Keyword) (span : Span) (state after : State) → Begins (keyword word span) state after → same_word word keyword_of.Unsafe ≡ false
     → is_extern (keyword_at keyword_of.Unsafe state) ≡ false

@@ -29,12 +29,12 @@ use Rattle.tb_syntax.specs.Attributes.{has_inner, begins_bang, attributes_at, Is
 use Rattle.tb_syntax.specs.Items.{head_at, head_row, IsHead}
 use Rattle.tb_syntax.proofs.Options.{bind_some, some_is}
 use Rattle.tb_syntax.proofs.Chains.{stands-split, stands-shrinks, begins-shrinks}
-use Rattle.tb_syntax.proofs.Marks.{mark-again, mark-has, other-mark, punct-takes, punct-again}
-use Rattle.tb_syntax.proofs.Attributed.{attributes-take, attributes-again}
-use Rattle.tb_syntax.proofs.Headed.{head-takes, head-again}
+use Rattle.tb_syntax.proofs.Marks.{mark-complete, mark-has, other-mark, punct-sound, punct-complete}
+use Rattle.tb_syntax.proofs.Attributed.{attributes-take, attributes-complete}
+use Rattle.tb_syntax.proofs.Headed.{head-sound, head-complete}
 use Rattle.tb_expr.specs.Exprs.{block_in}
 use Rattle.tb_expr.specs.Grammar.{IsBlockAt, Braced, AreLinesAt}
-use Rattle.tb_expr.proofs.AgainDepths.{block-roll}
+use Rattle.tb_expr.proofs.CompleteDepths.{block-roll}
 use Rattle.tb_parse.specs.Files.{function_of, item_of, begins_extern}
 use Rattle.tb_parse.specs.Trees.{IsKindAt, AUse, AStruct, AnExtern, AFunction, IsItemAt, AnItem, IsRun, NoRun, LongerRun, IsInnerRun, NoInnerRun, LongerInnerRun}
 use Rattle.tb_parse.specs.Fronts.{IsSuffix, NoneTo, IsLongest, InnerTo, ItemTo, OpenedTo, opened_at, StatementsTo, ItemsTo, NoItem, NextItem, InBody, FrontTo, Items, NextInner, Unfinished}
@@ -54,14 +54,14 @@ not-both false e f = absurd cc
 
 -- Attributes, a head and `{`: what is read stands there, and what stands there is read.
 
-pub opened-takes : (state rest : State) → opened_at state ≡ Some rest → OpenedTo state rest
+pub opened-sound : (state rest : State) → opened_at state ≡ Some rest → OpenedTo state rest
 unfolding opened_at
-opened-takes state rest e =
+opened-sound state rest e =
     let attributes = bind_some (attributes_at state) _ rest e in
     let head = bind_some (head_at 128 attributes.0.1) _ rest attributes.2 in
     let opening = bind_some (punct_at OpenBrace head.0.1) _ rest head.2 in
     let run = attributes-take state attributes.0.0 attributes.0.1 attributes.1 in
-    let taken = head-takes 128 attributes.0.1 head.0 head.1 in
+    let taken = head-sound 128 attributes.0.1 head.0 head.1 in
     let last : opening.0.1 ≡ rest = some_is opening.0.1 rest opening.2 in
     record {
       attributes = attributes.0.0;
@@ -74,21 +74,21 @@ opened-takes state rest e =
       stands = taken.0;
       is = taken.1;
       ends = taken.2;
-      opens = subst (λ s. Begins (punct OpenBrace opening.0.0) head.0.1 s) last (punct-takes OpenBrace head.0.1 opening.0.0 opening.0.1 opening.1);
+      opens = subst (λ s. Begins (punct OpenBrace opening.0.0) head.0.1 s) last (punct-sound OpenBrace head.0.1 opening.0.0 opening.0.1 opening.1);
     }
 
 head-no-pound : (head : FunctionHead) (state rest : State) → Stands (head_row head) state rest → has_mark Pound state ≡ false
 head-no-pound head state rest h = front-no-pound keyword_of.Fn (head_behind head) head.fn_keyword head.unsafe_keyword state rest h
 
 opened-attributes : (state rest : State) (o : OpenedTo state rest) → attributes_at state ≡ Some (o.attributes, o.a)
-opened-attributes state rest o = attributes-again state o.attributes o.a o.are (head-no-pound o.head o.a o.b o.stands) o.noted
+opened-attributes state rest o = attributes-complete state o.attributes o.a o.are (head-no-pound o.head o.a o.b o.stands) o.noted
 
-pub opened-again : (state rest : State) → OpenedTo state rest → opened_at state ≡ Some rest
+pub opened-complete : (state rest : State) → OpenedTo state rest → opened_at state ≡ Some rest
 unfolding opened_at
-opened-again state rest o =
+opened-complete state rest o =
     let a = opened-attributes state rest o in
-    let h = head-again 128 o.a o.head o.b o.is o.ends o.stands in
-    let p = punct-again OpenBrace o.b o.opening rest o.opens in
+    let h = head-complete 128 o.a o.head o.b o.is o.ends o.stands in
+    let p = punct-complete OpenBrace o.b o.opening rest o.opens in
     rw a (rw h (rw p refl))
 
 none-some : (r : Option State) (s : State) → r ≡ None → r ≡ Some s → ⊥
@@ -96,10 +96,10 @@ none-some None s a b = absurd cc
 none-some (Some x) s a b = absurd cc
 
 pub not-opened : (state : State) → opened_at state ≡ None → NoneTo (OpenedTo state)
-not-opened state e rest o = none-some (opened_at state) rest e (opened-again state rest o)
+not-opened state e rest o = none-some (opened_at state) rest e (opened-complete state rest o)
 
 opened-one : (state rest after : State) → OpenedTo state rest → OpenedTo state after → rest ≡ after
-opened-one state rest after x y = some_is rest after (sym (opened-again state rest x) ∙ opened-again state after y)
+opened-one state rest after x y = some_is rest after (sym (opened-complete state rest x) ∙ opened-complete state after y)
 
 -- what stands behind it is shorter
 opened-shrinks : (state rest : State) → OpenedTo state rest → length rest ≤ length state
@@ -120,12 +120,12 @@ head-one state n m x y rest after stands is ends stands_too is_too ends_too =
     let d = max n m in
     let one = head-within n d x is (omega arith) (omega arith) in
     let two = head-within m d y is_too (omega arith) (omega arith) in
-    let same : ◌≡◌ {A = FunctionHead × State} (x, rest) (y, after) = some_is (x, rest) (y, after) (sym (head-again d state x rest one ends stands) ∙ head-again d state y after two ends_too stands_too) in
+    let same : ◌≡◌ {A = FunctionHead × State} (x, rest) (y, after) = some_is (x, rest) (y, after) (sym (head-complete d state x rest one ends stands) ∙ head-complete d state y after two ends_too stands_too) in
     ap (λ z. z.1) same
 
 one-brace : (state : State) (x y : Span) (rest after : State) → Begins (punct OpenBrace x) state rest → Begins (punct OpenBrace y) state after → rest ≡ after
 one-brace state x y rest after h k =
-    let same : ◌≡◌ {A = Span × State} (x, rest) (y, after) = some_is (x, rest) (y, after) (sym (punct-again OpenBrace state x rest h) ∙ punct-again OpenBrace state y after k) in
+    let same : ◌≡◌ {A = Span × State} (x, rest) (y, after) = some_is (x, rest) (y, after) (sym (punct-complete OpenBrace state x rest h) ∙ punct-complete OpenBrace state y after k) in
     ap (λ z. z.1) same
 
 -- a body and statements behind the same `{`
@@ -153,7 +153,7 @@ kind-over-front state k rest (AFunction first depth body a stands is stops insid
 
 item-over-front : (state : State) (x : Item) (rest : State) → IsItemAt state x rest → (c after : State) → OpenedTo state c → StatementsTo c after → length rest ≤ length after
 item-over-front state x rest (AnItem attributes k a stands are is) c after o f =
-    let first = attributes-again state attributes a are (kind-no-pound a k rest is) stands in
+    let first = attributes-complete state attributes a are (kind-no-pound a k rest is) stands in
     let same : ◌≡◌ {A = List Attribute × State} (attributes, a) (o.attributes, o.a) = some_is (attributes, a) (o.attributes, o.a) (sym first ∙ opened-attributes state c o) in
     kind-over-front o.a k rest (subst (λ s. IsKindAt s k rest) (ap (λ z. z.1) same) is) o.head o.opening o.b c after o.stands o.is o.ends o.opens f
 
@@ -239,7 +239,7 @@ attributed-no-inner state (x ∷ xs) a h e =
     let row = s.1 in
     let m : Mark = record { span = x.pound; glued = false } in
     let bracket : Mark = record { span = x.opening; glued = false } in
-    let read : mark_at Pound state ≡ Some (m, row.0) = mark-again Pound state m row.0 row.1 in
+    let read : mark_at Pound state ≡ Some (m, row.0) = mark-complete Pound state m row.0 row.1 in
     ap begins_bang read ∙ other-mark OpenBracket Not bracket row.0 row.2.0 refl row.2.1
 
 item-no-inner : (state : State) (x : Item) (rest : State) → IsItemAt state x rest → has_inner state ≡ false
@@ -302,7 +302,7 @@ items-no-inner state xs rest (LongerRun first others a is behind) e = item-no-in
 -- A function that does not end, over tokens.
 
 pub function-tokens : (state c : State) (inside left : List Token) → opened_at state ≡ Some c → map piece_of inside ≡ c → StatementsTo (map piece_of inside) (map piece_of left) → ItemsTo state (map piece_of left)
-function-tokens state c inside left read same f = InBody c (opened-takes state c read) (subst (λ s. StatementsTo s (map piece_of left)) same f)
+function-tokens state c inside left read same f = InBody c (opened-sound state c read) (subst (λ s. StatementsTo s (map piece_of left)) same f)
 
 pub function-left : (state c : State) (inside left : List Token) → NoneTo (ItemTo state) → opened_at state ≡ Some c → map piece_of inside ≡ c → StatementsTo (map piece_of inside) (map piece_of left)
     → IsLongest (StatementsTo (map piece_of inside)) (length left) → IsLongest (ItemsTo state) (length left)
@@ -311,14 +311,14 @@ function-left state c inside left none read same f longest after g =
     let there : StatementsTo c (map piece_of left) = subst (λ s. StatementsTo s (map piece_of left)) same f in
     let far : IsLongest (StatementsTo c) (length (map piece_of left)) =
     λ other h. let less = longest other (subst (λ s. StatementsTo s other) (sym same) h) in omega arith in
-    let less = function-longest state c (map piece_of left) none (opened-takes state c read) there far after g in
+    let less = function-longest state c (map piece_of left) none (opened-sound state c read) there far after g in
     omega arith
 
 pub function-whole : (state c : State) → opened_at state ≡ Some c → IsSuffix state c
-function-whole state c read = opened-suffix state state c (opened-takes state c read) (whole-tail state)
+function-whole state c read = opened-suffix state state c (opened-sound state c read) (whole-tail state)
 
 pub function-unfinished : (state c : State) (inside : List Token) → NoneTo (ItemTo state) → opened_at state ≡ Some c → map piece_of inside ≡ c → Unfinished (map piece_of inside)
-function-unfinished state c inside none read same = subst (λ s. Unfinished s) (sym same) (opened-unfinished state c (opened-takes state c read) none)
+function-unfinished state c inside none read same = subst (λ s. Unfinished s) (sym same) (opened-unfinished state c (opened-sound state c read) none)
 
 pub function-none : (tokens : List Token) → NoneTo (ItemTo (map piece_of tokens)) → opened_at (map piece_of tokens) ≡ None → IsLongest (ItemsTo (map piece_of tokens)) (length tokens)
 function-none tokens none closed after f =

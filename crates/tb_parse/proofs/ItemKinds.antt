@@ -24,54 +24,54 @@ use Rattle.tb_syntax.specs.Notes.{ResultEnds}
 use Rattle.tb_syntax.specs.Items.{use_at, struct_at, head_at, extern_at, IsUse, IsStruct, IsExtern, head_row, IsHead}
 use Rattle.tb_syntax.proofs.Options.{bind_some, chosen, some_is}
 use Rattle.tb_syntax.proofs.Chains.{stands-shrinks}
-use Rattle.tb_syntax.proofs.Itemized.{use-takes, use-again, struct-takes, struct-again}
-use Rattle.tb_syntax.proofs.Headed.{head-takes, head-again, extern-takes, extern-again}
+use Rattle.tb_syntax.proofs.Itemized.{use-sound, use-complete, struct-sound, struct-complete}
+use Rattle.tb_syntax.proofs.Headed.{head-sound, head-complete, extern-sound, extern-complete}
 use Rattle.tb_expr.specs.Grammar.{IsBlockAt}
 use Rattle.tb_expr.specs.Exprs.{block_at}
 use Rattle.tb_parse.specs.Files.{function_of, function_at, begins_extern, kind_at}
 use Rattle.tb_parse.specs.Trees.{IsKindAt, AUse, AStruct, AnExtern, AFunction}
-use Rattle.tb_expr.proofs.TakesAll.{block-takes}
-use Rattle.tb_expr.proofs.AgainAll.{block-again}
+use Rattle.tb_expr.proofs.SoundAll.{block-sound}
+use Rattle.tb_expr.proofs.CompleteAll.{block-complete}
 use Rattle.tb_expr.proofs.Spelled.{block-spelled}
 use Rattle.tb_parse.proofs.Within.{first-within, second-within, struct-within, extern-within, head-within}
 use Rattle.tb_parse.proofs.Firsts.{keyword-has, front-no-pound, front-shorter, front-no-word, begins-extern, begins-no-extern}
 
 -- What is read.
 
-function-takes : (depth : ℕ) (state : State) (function : Function) (rest : State) → function_at depth state ≡ Some (function, rest) → IsKindAt state (item.Function function) rest
+function-sound : (depth : ℕ) (state : State) (function : Function) (rest : State) → function_at depth state ≡ Some (function, rest) → IsKindAt state (item.Function function) rest
 unfolding function_at
-function-takes depth state function rest e =
+function-sound depth state function rest e =
     let head = bind_some (head_at (suc depth) state) _ (function, rest) e in
     let body = bind_some (block_at depth head.0.1) _ (function, rest) head.2 in
-    let taken = head-takes (suc depth) state head.0 head.1 in
+    let taken = head-sound (suc depth) state head.0 head.1 in
     let is : Function × State → Type 0 = λ y. IsKindAt state (item.Function y.0) y.1 in
     subst is (some_is (function_of head.0.0 body.0.0, body.0.1) (function, rest) body.2)
-    (AFunction head.0.0 (suc depth) body.0.0 head.0.1 taken.0 taken.1 taken.2 (block-takes depth head.0.1 body.0.0 body.0.1 body.1))
+    (AFunction head.0.0 (suc depth) body.0.0 head.0.1 taken.0 taken.1 taken.2 (block-sound depth head.0.1 body.0.0 body.0.1 body.1))
 
-pub kind-takes : (depth : ℕ) (state : State) (k : ItemKind) (rest : State) → kind_at depth state ≡ Some (k, rest) → IsKindAt state k rest
+pub kind-sound : (depth : ℕ) (state : State) (k : ItemKind) (rest : State) → kind_at depth state ≡ Some (k, rest) → IsKindAt state k rest
 unfolding kind_at
-kind-takes depth state k rest e =
+kind-sound depth state k rest e =
     let is : ItemKind × State → Type 0 = λ y. IsKindAt state y.0 y.1 in
     elim (chosen (has_keyword keyword_of.Use state) _ _ (k, rest) e) [
       | inl a ↦
           let x = bind_some (use_at state) _ (k, rest) a.1 in
-          let t = use-takes state x.0.0 x.0.1 x.1 in
+          let t = use-sound state x.0.0 x.0.1 x.1 in
           subst is (some_is (item.Use x.0.0, x.0.1) (k, rest) x.2) (AUse x.0.0 t.0 t.1)
       | inr a ↦
           elim (chosen (has_keyword keyword_of.Struct state) _ _ (k, rest) a.1) [
             | inl b ↦
                 let x = bind_some (struct_at (suc depth) state) _ (k, rest) b.1 in
-                let t = struct-takes (suc depth) state x.0.0 x.0.1 x.1 in
+                let t = struct-sound (suc depth) state x.0.0 x.0.1 x.1 in
                 subst is (some_is (item.Struct x.0.0, x.0.1) (k, rest) x.2) (AStruct x.0.0 (suc depth) t.0 t.1)
             | inr b ↦
                 elim (chosen (begins_extern state) _ _ (k, rest) b.1) [
                   | inl c ↦
                       let x = bind_some (extern_at (suc depth) state) _ (k, rest) c.1 in
-                      let t = extern-takes (suc depth) state x.0.0 x.0.1 x.1 in
+                      let t = extern-sound (suc depth) state x.0.0 x.0.1 x.1 in
                       subst is (some_is (item.Extern x.0.0, x.0.1) (k, rest) x.2) (AnExtern x.0.0 (suc depth) t.0 t.1)
                   | inr c ↦
                       let x = bind_some (function_at depth state) _ (k, rest) c.1 in
-                      subst is (some_is (item.Function x.0.0, x.0.1) (k, rest) x.2) (function-takes depth state x.0.0 x.0.1 x.1)
+                      subst is (some_is (item.Function x.0.0, x.0.1) (k, rest) x.2) (function-sound depth state x.0.0 x.0.1 x.1)
                 ]
           ]
     ]
@@ -125,24 +125,24 @@ by-function : (depth : ℕ) (state : State) (function : Function) (rest : State)
 unfolding kind_at
 by-function depth state function rest a b c e = rw (a, b) (rw c (rw e refl))
 
-function-again : (depth : ℕ) (state : State) (head : FunctionHead) (body : Block) (middle rest : State) → head_at (suc depth) state ≡ Some (head, middle) → block_at depth middle ≡ Some (body, rest)
+function-complete : (depth : ℕ) (state : State) (head : FunctionHead) (body : Block) (middle rest : State) → head_at (suc depth) state ≡ Some (head, middle) → block_at depth middle ≡ Some (body, rest)
     → function_at depth state ≡ Some (function_of head body, rest)
 unfolding function_at
-function-again depth state head body middle rest a b = rw a (rw b refl)
+function-complete depth state head body middle rest a b = rw a (rw b refl)
 
-pub kind-again : (state : State) (k : ItemKind) (rest : State) → IsKindAt state k rest → (depth : ℕ) → kind_depth k ≤ suc depth → kind_at depth state ≡ Some (k, rest)
-kind-again state k rest (AUse u stands is) depth e =
-    by-use depth state u rest (keyword-has keyword_of.Use keyword_of.Use u.use_keyword state stands.0 stands.1) (use-again state u rest is stands)
-kind-again state k rest (AStruct s n stands is) depth e =
+pub kind-complete : (state : State) (k : ItemKind) (rest : State) → IsKindAt state k rest → (depth : ℕ) → kind_depth k ≤ suc depth → kind_at depth state ≡ Some (k, rest)
+kind-complete state k rest (AUse u stands is) depth e =
+    by-use depth state u rest (keyword-has keyword_of.Use keyword_of.Use u.use_keyword state stands.0 stands.1) (use-complete state u rest is stands)
+kind-complete state k rest (AStruct s n stands is) depth e =
     by-struct depth state s rest (keyword-has keyword_of.Struct keyword_of.Use s.struct_keyword state stands.0 stands.1) (keyword-has keyword_of.Struct keyword_of.Struct s.struct_keyword state stands.0 stands.1)
-    (struct-again (suc depth) state s rest (struct-within n (suc depth) s is e) stands)
-kind-again state k rest (AnExtern block n stands is) depth e =
+    (struct-complete (suc depth) state s rest (struct-within n (suc depth) s is e) stands)
+kind-complete state k rest (AnExtern block n stands is) depth e =
     let no = front-no-word keyword_of.Extern (extern_behind block) block.extern_keyword block.unsafe_keyword in
     by-extern depth state block rest (front-no-word keyword_of.Extern (extern_behind block) block.extern_keyword block.unsafe_keyword keyword_of.Use state rest stands refl refl)
     (front-no-word keyword_of.Extern (extern_behind block) block.extern_keyword block.unsafe_keyword keyword_of.Struct state rest stands refl refl)
     (begins-extern (extern_behind block) block.extern_keyword block.unsafe_keyword state rest stands)
-    (extern-again (suc depth) state block rest (extern-within n (suc depth) block is e) stands)
-kind-again state k rest (AFunction head n body a stands is ends b) depth e =
+    (extern-complete (suc depth) state block rest (extern-within n (suc depth) block is e) stands)
+kind-complete state k rest (AFunction head n body a stands is ends b) depth e =
     let ps = deepest (map parameter_depth head.parameters) in
     let heads = first-within (max ps (result_depth head.result)) (block_depth body) (suc depth) e in
     let deep = second-within (max ps (result_depth head.result)) (block_depth body) (suc depth) e in
@@ -150,4 +150,4 @@ kind-again state k rest (AFunction head n body a stands is ends b) depth e =
     by-function depth state (function_of head body) rest (front-no-word keyword_of.Fn (head_behind head) head.fn_keyword head.unsafe_keyword keyword_of.Use state a stands refl refl)
     (front-no-word keyword_of.Fn (head_behind head) head.fn_keyword head.unsafe_keyword keyword_of.Struct state a stands refl refl)
     (begins-no-extern (head_behind head) head.fn_keyword head.unsafe_keyword state a stands)
-    (function-again depth state head body a rest (head-again (suc depth) state head a within ends stands) (block-again a body rest b depth deep))
+    (function-complete depth state head body a rest (head-complete (suc depth) state head a within ends stands) (block-complete a body rest b depth deep))

@@ -15,9 +15,9 @@ use Rattle.tb_syntax.specs.Marks.{has_mark, mark_at}
 use Rattle.tb_syntax.specs.Attributes.{has_inner, begins_bang, inner_at, inners_at, IsInner}
 use Rattle.tb_syntax.proofs.Options.{some_is}
 use Rattle.tb_syntax.proofs.Chains.{stands-then, stands-split, stands-shrinks}
-use Rattle.tb_syntax.proofs.Marks.{mark-again, pound-shorter}
+use Rattle.tb_syntax.proofs.Marks.{mark-complete, pound-shorter}
 use Rattle.tb_syntax.proofs.Listed.{begins-has}
-use Rattle.tb_syntax.proofs.Attributed.{inner-again, inners-again}
+use Rattle.tb_syntax.proofs.Attributed.{inner-complete, inners-complete}
 use Rattle.tb_parse.specs.Trees.{IsItemAt, AreItems, NoItems, MoreItems, IsRun, NoRun, LongerRun, IsInnerRun, NoInnerRun, LongerInnerRun, IsFile}
 use Rattle.tb_parse.specs.Fronts.{NoneTo, InnerTo, ItemTo}
 use Rattle.tb_parse.proofs.Within.{first-within, second-within}
@@ -77,7 +77,7 @@ run-refused state xs rest run none ys are deep = let l = run-left state xs rest 
 pub inner-one : (state : State) (x y : InnerAttribute) (rest after : State) → Stands (inner_row x) state rest → IsInner x → Stands (inner_row y) state after → IsInner y → (x ≡ y) × (rest ≡ after)
 inner-one state x y rest after h good h_too good_too =
     let same : ◌≡◌ {A = InnerAttribute × State} (x, rest) (y, after) =
-    some_is (x, rest) (y, after) (sym (inner-again state x rest good h) ∙ inner-again state y after good_too h_too) in
+    some_is (x, rest) (y, after) (sym (inner-complete state x rest good h) ∙ inner-complete state y after good_too h_too) in
     (ap (λ z. z.0) same, ap (λ z. z.1) same)
 
 pub inner-shorter : (state : State) (x : InnerAttribute) (rest : State) → Stands (inner_row x) state rest → length rest < length state
@@ -91,7 +91,7 @@ unfolding has_inner
 inner-begins state x rest h =
     let m : Mark = record { span = x.pound; glued = false } in
     let bang : Mark = record { span = x.bang; glued = false } in
-    let read : mark_at Pound state ≡ Some (m, h.0) = mark-again Pound state m h.0 h.1 in
+    let read : mark_at Pound state ≡ Some (m, h.0) = mark-complete Pound state m h.0 h.1 in
     ap begins_bang read ∙ begins-has Not bang h.0 h.2.0 h.2.1
 
 pub inner-run-more : (state : State) (xs : List InnerAttribute) (middle : State) (x : InnerAttribute) (rest : State) → IsInnerRun state xs middle → Stands (inner_row x) middle rest → IsInner x → IsInnerRun state (xs ++ x ∷ []) rest
@@ -134,8 +134,8 @@ pub record SameFile (xs ys : List InnerAttribute) (items others : List Item) : T
 
 pub file-one : (state : State) (xs ys : List InnerAttribute) (items others : List Item) → IsFile state xs items → IsFile state ys others → SameFile xs ys items others
 file-one state xs ys items others file other =
-    let first = inners-again state xs file.middle file.are_inner file.no_more file.stands in
-    let second = inners-again state ys other.middle other.are_inner other.no_more other.stands in
+    let first = inners-complete state xs file.middle file.are_inner file.no_more file.stands in
+    let second = inners-complete state ys other.middle other.are_inner other.no_more other.stands in
     let same : ◌≡◌ {A = List InnerAttribute × State} (xs, file.middle) (ys, other.middle) = some_is (xs, file.middle) (ys, other.middle) (sym first ∙ second) in
     let middle : file.middle ≡ other.middle = ap (λ z. z.1) same in
     record { same_inners = ap (λ z. z.0) same; same_items = items-one file.middle items others file.are_items (subst (λ s. AreItems s others) (sym middle) other.are_items) }

@@ -30,6 +30,8 @@ use Rattle.tb_syntax.specs.Reading.{◌>>=◌}
 use Rattle.tb_syntax.specs.Notes.{ResultEnds}
 use Rattle.tb_syntax.specs.Attributes.{attributes_at, IsInner, IsAttribute}
 use Rattle.tb_syntax.specs.Items.{head_at, head_row, IsHead}
+use Rattle.tb_forms.specs.declared.place.Where.TheVariants.{Condition}
+use Rattle.tb_forms.specs.Levels.{loosest_level}
 use Rattle.tb_forms.specs.Trees.{if_to}
 use Rattle.tb_expr.specs.Grammar.{IsWholeAt, IsBlockyAt, IsBlockAt, IsStmtAt, AreLinesAt}
 use Rattle.tb_parse.specs.declared.error.ParseError.{ParseError}
@@ -60,10 +62,10 @@ StatementTo state rest = (statement : Stmt) × IsStmtAt state statement rest × 
 -- another `else`, at which the front is cut
 pub data IsCutIfAt : State → Expr → State → Type 0 where
   CutIf : {state rest : State} (at : Span) (condition : Expr) (body : Block) (a b : State)
-      → Begins (keyword keyword_of.If at) state a → IsWholeAt false 13 a condition b → IsBlockAt b body rest → has_keyword keyword_of.Else rest ≡ true
+      → Begins (keyword keyword_of.If at) state a → IsWholeAt Condition loosest_level a condition b → IsBlockAt b body rest → has_keyword keyword_of.Else rest ≡ true
       → IsCutIfAt state (if_to at condition body None) rest
   CutElse : {state rest : State} (at : Span) (condition : Expr) (body : Block) (word : Span) (branch : Expr) (a b c d : State)
-      → Begins (keyword keyword_of.If at) state a → IsWholeAt false 13 a condition b → IsBlockAt b body c → Begins (keyword keyword_of.Else word) c d → IsCutIfAt d branch rest
+      → Begins (keyword keyword_of.If at) state a → IsWholeAt Condition loosest_level a condition b → IsBlockAt b body c → Begins (keyword keyword_of.Else word) c d → IsCutIfAt d branch rest
       → IsCutIfAt state (if_to at condition body (Some (roll-Else (Else-F.ElseIf word branch)))) rest
 
 -- Statements of a function's body, one behind another. The source goes on behind a front. A whole statement ends with `;` or with
@@ -163,7 +165,7 @@ IsLongest Is left = (rest : State) → Is rest → left ≤ length rest
 
 -- a condition, and a block, of at most this depth
 abbrev pub ConditionTo : ℕ → State → State → Type 0
-ConditionTo depth state rest = (condition : Expr) × IsWholeAt false 13 state condition rest × (expr_depth condition ≤ depth)
+ConditionTo depth state rest = (condition : Expr) × IsWholeAt Condition loosest_level state condition rest × (expr_depth condition ≤ depth)
 
 abbrev pub BlockTo : ℕ → State → State → Type 0
 BlockTo depth state rest = (body : Block) × IsBlockAt state body rest × (block_depth body ≤ depth)

@@ -1,7 +1,7 @@
 -- Pieces one behind another at the front of a state.
-use Rattle.std.proofs.Common.{◌≡◌, ℕ, ◌<◌, ◌≤◌, ◌+◌, List, [], ◌∷◌, ◌++◌, length, refl, sym, ap, subst, ◌∙◌, inl, inr, arith}
+use Rattle.std.proofs.Common.{◌≡◌, ◌≤◌, List, [], ◌∷◌, ◌++◌, length, refl, sym, ap, subst, inl, inr, arith}
 use Rattle.tb_ast.specs.declared.piece.Piece.{Piece}
-use Rattle.tb_syntax.specs.State.{State, IsPart, Begins, Stands}
+use Rattle.tb_syntax.specs.State.{State, Begins, Stands}
 
 pub stands-then : (first second : List Piece) (state middle rest : State) → Stands first state middle → Stands second middle rest → Stands (first ++ second) state rest
 stands-then [] second state middle rest a b = subst (λ s. Stands second s rest) (sym a) b

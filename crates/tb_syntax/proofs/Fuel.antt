@@ -1,8 +1,6 @@
 -- Reading types takes one step of its depth.
-use Rattle.std.proofs.Common.{◌≡◌, ◌≢◌, ℕ, zero, suc, ◌+◌, ◌-◌, ◌<◌, ◌≤◌, Bool, true, false, nat_eq, Option, Some, None, refl, sym, ap, ◌∙◌, arith}
-use Rattle.tb_ast.specs.declared.written.TypeExpr.{TypeExpr}
-use Rattle.tb_syntax.specs.declared.error.ReadError.{ReadError}
-use Rattle.tb_syntax.specs.Reading.{◌>>=◌, Fails}
+use Rattle.std.proofs.Common.{◌≡◌, ◌≢◌, ℕ, suc, ◌-◌, None, refl, ap, ◌∙◌, arith}
+use Rattle.tb_syntax.specs.Reading.{◌>>=◌}
 use Rattle.tb_syntax.specs.State.{State}
 use Rattle.tb_syntax.specs.Types.{type_front_at, type_behind, type_at}
 

@@ -1,10 +1,10 @@
 -- Pieces that stand at the front are joined before what follows, and joined pieces stand there.
-use Rattle.std.proofs.Common.{◌≡◌, ℕ, Bool, true, false, cond, if◌then◌else◌, List, [], ◌∷◌, Option, Some, None, refl, sym, ap, subst, ◌∙◌, inl, inr}
+use Rattle.std.proofs.Common.{◌≡◌, Bool, false, if◌then◌else◌, List, [], ◌∷◌, Option, Some, None, refl, sym, ap, subst, ◌∙◌, inl, inr}
 use Rattle.std.specs.List.{AllByRecursion}
 use Rattle.tb_lex.specs.declared.punctuation.Punctuation.{Punctuation}
 use Rattle.tb_ast.specs.declared.piece.Piece.{Piece}
-use Rattle.tb_ast.specs.Joined.{joint, over, put_joint, put_before, joined_before, with_kind, IsApart}
-use Rattle.tb_syntax.specs.State.{State, IsState, IsPart, Begins, Stands, Meets, AreTight}
+use Rattle.tb_ast.specs.Joined.{joint, put_joint, put_before, joined_before, with_kind, IsApart}
+use Rattle.tb_syntax.specs.State.{State, IsState, Begins, Stands, Meets, AreTight}
 
 apart-joint : (first second : Piece) (glued : Bool) → second.glued ≡ glued → glued ≡ false → joint first second ≡ None
 apart-joint first second glued is apart = ap (λ b. if b then with_kind first.kind second.kind else None) (is ∙ apart)

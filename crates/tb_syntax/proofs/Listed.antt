@@ -1,5 +1,5 @@
 -- Lists with commas up to a mark that closes: what is read stands there, and what stands there is read.
-use Rattle.std.proofs.Common.{◌≡◌, ◌⊎◌, ℕ, zero, suc, ◌+◌, ◌<◌, ◌≤◌, Bool, true, false, true≢false, List, [], ◌∷◌, ◌++◌, map, length, Option, Some, None, refl, sym, ap, subst, ◌∙◌, inl, inr, arith}
+use Rattle.std.proofs.Common.{◌≡◌, ◌+◌, ◌<◌, ◌≤◌, Bool, true, false, true≢false, List, [], ◌∷◌, map, length, Option, Some, sym, ap, inl, inr, arith}
 use Rattle.std.specs.List.{AllByRecursion}
 use Rattle.tb_perm.specs.declared.span.Span.{Span}
 use Rattle.tb_lex.specs.declared.punctuation.Punctuation.{Punctuation}
@@ -7,16 +7,16 @@ use Rattle.tb_lex.specs.declared.punctuation.Punctuation.TheVariants.{Comma}
 use Rattle.tb_ast.specs.declared.piece.Piece.{Piece}
 use Rattle.tb_ast.specs.declared.leaf.Mark.{Mark}
 use Rattle.tb_ast.specs.Pieces.{punct, mark, separated}
-use Rattle.tb_syntax.specs.State.{State, IsPart, Begins, Stands}
-use Rattle.tb_syntax.specs.Marks.{mark_at, has_mark}
-use Rattle.tb_syntax.specs.Lists.{Listed, IsListed, list_at, listed_at}
+use Rattle.tb_syntax.specs.State.{State, Begins, Stands}
+use Rattle.tb_syntax.specs.Marks.{has_mark}
+use Rattle.tb_syntax.specs.Lists.{IsListed, listed_at}
 use Rattle.tb_syntax.proofs.Chains.{stands-split, stands-shrinks}
-use Rattle.tb_syntax.proofs.Marks.{mark-again, mark-has, comma-shorter}
-use Rattle.tb_syntax.proofs.Lists.{EndsSo, Starts, Taken, list-takes, list-again}
+use Rattle.tb_syntax.proofs.Marks.{mark-complete, mark-has, comma-shorter}
+use Rattle.tb_syntax.proofs.Lists.{EndsSo, Starts, list-sound, list-complete}
 
 -- where a mark stands, it comes next
 pub begins-has : (wanted : Punctuation) (m : Mark) (state rest : State) → Begins (mark wanted m) state rest → has_mark wanted state ≡ true
-begins-has wanted m state rest h = mark-has wanted state (m, rest) (mark-again wanted state m rest h)
+begins-has wanted m state rest h = mark-has wanted state (m, rest) (mark-complete wanted state m rest h)
 
 not_empty : (wanted : Punctuation) (state : State) → has_mark wanted state ≡ true → 0 < length state
 unfolding has_mark
@@ -38,16 +38,16 @@ commas-short pieces (x ∷ values) (m ∷ marks) state rest few h =
     omega arith
 
 module _ {A : Type 0} (one : State → Option (A × State)) (close : Punctuation) (pieces : A → List Piece) (Good : A → Type 0) where
-  pub listed-takes : ((state : State) (x : A) (rest : State) → one state ≡ Some (x, rest) → Stands (pieces x) state rest × Good x)
+  pub listed-sound : ((state : State) (x : A) (rest : State) → one state ≡ Some (x, rest) → Stands (pieces x) state rest × Good x)
       → (state : State) (values : List A) (marks : List Span) (rest : State) → listed_at one close state ≡ Some ((values, marks), rest)
       → Stands (separated Comma (map pieces values) marks) state rest × AllByRecursion Good values × IsListed values marks
   unfolding listed_at
-  listed-takes one_takes state values marks rest e =
-      let t = list-takes (has_mark close) one (has_mark Comma) Comma pieces Good one_takes (length state) state values marks rest e in
+  listed-sound one_sound state values marks rest e =
+      let t = list-sound (has_mark close) one (has_mark Comma) Comma pieces Good one_sound (length state) state values marks rest e in
       let listed : IsListed values marks = elim t.closed [ inl k ↦ inl k.0 | inr k ↦ inr k.0 ] in
       (t.stands, t.good, listed)
 
-  pub listed-again : (free : A → State → Bool)
+  pub listed-complete : (free : A → State → Bool)
       → ((state : State) (x : A) (rest : State) → Good x → free x rest ≡ true → Stands (pieces x) state rest → one state ≡ Some (x, rest))
       → ((state : State) (x : A) (rest : State) → Good x → Stands (pieces x) state rest → has_mark close state ≡ false)
       → ((x : A) → Good x → (m : Span) (state rest : State) → Begins (punct Comma m) state rest → free x state ≡ true)
@@ -56,7 +56,7 @@ module _ {A : Type 0} (one : State → Option (A × State)) (close : Punctuation
       → AllByRecursion Good values → IsListed values marks → Stands (separated Comma (map pieces values) marks) state rest
       → listed_at one close state ≡ Some ((values, marks), rest)
   unfolding listed_at
-  listed-again free one_again no_end free_before state values marks rest last closed stop good listed h =
+  listed-complete free one_complete no_end free_before state values marks rest last closed stop good listed h =
       let few : length marks ≤ length values = elim listed [
         | inl k ↦ let same : length marks ≡ length values = k in omega arith
         | inr k ↦ let same : length marks + 1 ≡ length values = k in omega arith
@@ -66,4 +66,4 @@ module _ {A : Type 0} (one : State → Option (A × State)) (close : Punctuation
       let end : EndsSo (has_mark close) (has_mark Comma) values marks rest = elim listed [ inl k ↦ inl (k, closed) | inr k ↦ inr (k, stop) ] in
       let before : (m : Span) (s r : State) → Begins (punct Comma m) s r → Starts (has_mark close) one (has_mark Comma) Comma pieces Good r → has_mark Comma s ≡ true =
       λ m s r b x. begins-has Comma (record { span = m; glued = false }) s r b in
-      list-again (has_mark close) one (has_mark Comma) Comma pieces Good free one_again no_end free_before before (length state) values marks state rest (omega arith) good last end h
+      list-complete (has_mark close) one (has_mark Comma) Comma pieces Good free one_complete no_end free_before before (length state) values marks state rest (omega arith) good last end h

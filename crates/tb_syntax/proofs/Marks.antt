@@ -1,5 +1,5 @@
 -- Marks: what is read stands there, and what stands there is read.
-use Rattle.std.proofs.Common.{◌≡◌, ◌≢◌, ◌⊎◌, ℕ, ◌<◌, ◌≤◌, Bool, true, false, cond, if◌then◌else◌, ◌||◌, ◌&&◌, not, List, [], ◌∷◌, ◌++◌, length, Option, Some, None, refl, sym, ap, subst, ◌∙◌, inl, inr, rules, arith}
+use Rattle.std.proofs.Common.{◌≡◌, ℕ, ◌<◌, Bool, true, false, if◌then◌else◌, ◌||◌, ◌&&◌, not, [], ◌∷◌, length, Option, Some, None, refl, sym, ap, subst, ◌∙◌, inl, inr, rules, arith}
 use Rattle.tb_perm.specs.declared.span.Span.{Span}
 use Rattle.tb_lex.specs.declared.punctuation.Punctuation.{Punctuation}
 use Rattle.tb_lex.specs.declared.punctuation.Punctuation.TheVariants.{And, AndAnd, Gt, Ge, Shr, ShrEq, Eq, Comma, Pound}
@@ -8,11 +8,11 @@ use Rattle.tb_lex.specs.declared.token.TokenKind.TheVariants as kind
 use Rattle.tb_ast.specs.declared.piece.Piece.{Piece}
 use Rattle.tb_ast.specs.declared.leaf.Mark.{Mark}
 use Rattle.tb_ast.specs.Pieces.{punct, mark}
-use Rattle.tb_ast.specs.Joined.{with_mark, with_kind, joint, over}
+use Rattle.tb_ast.specs.Joined.{with_mark, with_kind}
 use Rattle.tb_syntax.specs.Reading.{◌>>=◌}
-use Rattle.tb_syntax.specs.State.{State, left_of, behind, IsPart, Begins}
+use Rattle.tb_syntax.specs.State.{State, left_of, behind, Begins}
 use Rattle.tb_syntax.specs.Marks.{same_mark, left_behind, mark_of, first_mark, part_at, taken, mark_at, punct_at, is_some, begins_mark, has_mark}
-use Rattle.tb_syntax.proofs.Options.{bind_some, kept, left, chosen, some_is}
+use Rattle.tb_syntax.proofs.Options.{bind_some, left, chosen, some_is}
 
 pub same_is : (a b : Punctuation) → same_mark a b ≡ true → a ≡ b
 same_is a b h = search rules
@@ -42,10 +42,10 @@ joint_split wanted left whole e = absurd cc
 abbrev piece_at : Punctuation → Mark → Piece
 piece_at found at = record { kind = kind.Punctuation found; span = at.span; glued = at.glued }
 
-part-takes : (wanted found : Punctuation) (at : Mark) (state : State) (o : Option Punctuation) (m : Mark) (rest : State)
+part-sound : (wanted found : Punctuation) (at : Mark) (state : State) (o : Option Punctuation) (m : Mark) (rest : State)
     → left_behind wanted found ≡ o → part_at o at state ≡ Some (m, rest) → Begins (mark wanted m) (piece_at found at ∷ state) rest
-part-takes wanted found at state None m rest q e = absurd cc
-part-takes wanted found at state (Some left) m rest q e =
+part-sound wanted found at state None m rest q e = absurd cc
+part-sound wanted found at state (Some left) m rest q e =
     let is : Mark × State → Type 0 = λ y. Begins (mark wanted y.0) (piece_at found at ∷ state) y.1 in
     let lo = at.span.lo in
     let part : Mark = record { span = record { lo = lo; hi = behind lo }; glued = at.glued } in
@@ -53,19 +53,19 @@ part-takes wanted found at state (Some left) m rest q e =
     subst is (some_is (part, other ∷ state) (m, rest) e)
     (inr (record { left = other; after = state; whole = found; joint = split_joint wanted found left q; short = refl; tight = refl; stands = refl; follows = refl }))
 
-taken-takes : (wanted found : Punctuation) (at : Mark) (state : State) (m : Mark) (rest : State)
+taken-sound : (wanted found : Punctuation) (at : Mark) (state : State) (m : Mark) (rest : State)
     → taken wanted found at state ≡ Some (m, rest) → Begins (mark wanted m) (piece_at found at ∷ state) rest
-taken-takes wanted found at state m rest e =
+taken-sound wanted found at state m rest e =
     let is : Mark × State → Type 0 = λ y. Begins (mark wanted y.0) (piece_at found at ∷ state) y.1 in
     elim (chosen (same_mark found wanted) (Some (at, state)) (part_at (left_behind wanted found) at state) (m, rest) e) [
       | inl k ↦ subst is (some_is (at, state) (m, rest) k.1) (inl (ap (λ f. piece_at f at ∷ state) (same_is found wanted k.0)))
-      | inr k ↦ part-takes wanted found at state (left_behind wanted found) m rest refl k.1
+      | inr k ↦ part-sound wanted found at state (left_behind wanted found) m rest refl k.1
     ]
 
-kind-takes : (wanted : Punctuation) (k : TokenKind) (at : Mark) (state : State) (m : Mark) (rest : State)
+kind-sound : (wanted : Punctuation) (k : TokenKind) (at : Mark) (state : State) (m : Mark) (rest : State)
     → (mark_of k >>= λ found. taken wanted found at state) ≡ Some (m, rest) → Begins (mark wanted m) (record { kind = k; span = at.span; glued = at.glued } ∷ state) rest
-kind-takes wanted (kind.Punctuation found) at state m rest e = taken-takes wanted found at state m rest e
-kind-takes wanted k at state m rest e = absurd cc
+kind-sound wanted (kind.Punctuation found) at state m rest e = taken-sound wanted found at state m rest e
+kind-sound wanted k at state m rest e = absurd cc
 
 abbrev front : Punctuation → Mark → State → Option (Punctuation × Mark × State)
 front found at state = Some (found, at, state)
@@ -75,33 +75,33 @@ kind-step : (wanted : Punctuation) (k : TokenKind) (at : Mark) (state : State)
 kind-step wanted (kind.Punctuation found) at state = refl
 kind-step wanted k at state = refl
 
-pub mark-takes : (wanted : Punctuation) (state : State) (m : Mark) (rest : State) → mark_at wanted state ≡ Some (m, rest) → Begins (mark wanted m) state rest
+pub mark-sound : (wanted : Punctuation) (state : State) (m : Mark) (rest : State) → mark_at wanted state ≡ Some (m, rest) → Begins (mark wanted m) state rest
 unfolding mark_at
-mark-takes wanted [] m rest e = absurd cc
-mark-takes wanted (piece ∷ state) m rest e =
+mark-sound wanted [] m rest e = absurd cc
+mark-sound wanted (piece ∷ state) m rest e =
     let at : Mark = record { span = piece.span; glued = piece.glued } in
-    kind-takes wanted piece.kind at state m rest (sym (kind-step wanted piece.kind at state) ∙ e)
+    kind-sound wanted piece.kind at state m rest (sym (kind-step wanted piece.kind at state) ∙ e)
 
-part-again : (wanted whole : Punctuation) (lo : ℕ) (glued : Bool) (k : TokenKind) (end : ℕ) (other : Bool) (after : State)
+part-complete : (wanted whole : Punctuation) (lo : ℕ) (glued : Bool) (k : TokenKind) (end : ℕ) (other : Bool) (after : State)
     → (if other then with_kind (kind.Punctuation wanted) k else None) ≡ Some whole
     → taken wanted whole (record { span = record { lo = lo; hi = end }; glued = glued }) after
     ≡ Some (record { span = record { lo = lo; hi = behind lo }; glued = glued }, record { kind = k; span = record { lo = behind lo; hi = end }; glued = other } ∷ after)
-part-again wanted whole lo glued (kind.Punctuation left) end true after e =
+part-complete wanted whole lo glued (kind.Punctuation left) end true after e =
     let s = joint_split wanted left whole e in rw (s.1, s.0) refl
-part-again wanted whole lo glued k end true after e = absurd cc
-part-again wanted whole lo glued k end false after e = absurd cc
+part-complete wanted whole lo glued k end true after e = absurd cc
+part-complete wanted whole lo glued k end false after e = absurd cc
 
-pub mark-again : (wanted : Punctuation) (state : State) (m : Mark) (rest : State) → Begins (mark wanted m) state rest → mark_at wanted state ≡ Some (m, rest)
+pub mark-complete : (wanted : Punctuation) (state : State) (m : Mark) (rest : State) → Begins (mark wanted m) state rest → mark_at wanted state ≡ Some (m, rest)
 unfolding mark_at
-mark-again wanted state m rest (inl e) = rw e (rw (same_self wanted) refl)
-mark-again wanted state m rest (inr part) =
+mark-complete wanted state m rest (inl e) = rw e (rw (same_self wanted) refl)
+mark-complete wanted state m rest (inr part) =
     let whole = part.whole in
     let other = part.left in
     let lo = m.span.lo in
     let end = other.span.hi in
     let read : taken wanted whole (record { span = record { lo = lo; hi = end }; glued = m.glued }) part.after
     ≡ Some (record { span = record { lo = lo; hi = behind lo }; glued = m.glued }, record { kind = other.kind; span = record { lo = behind lo; hi = end }; glued = other.glued } ∷ part.after) =
-    part-again wanted whole lo m.glued other.kind end other.glued part.after part.joint in
+    part-complete wanted whole lo m.glued other.kind end other.glued part.after part.joint in
     let at : ℕ → ℕ → Option (Mark × State) = λ hi low. Some (record { span = record { lo = lo; hi = hi }; glued = m.glued }, record { kind = other.kind; span = record { lo = low; hi = end }; glued = other.glued } ∷ part.after) in
     let to : State → Option (Mark × State) = λ r. Some (m, r) in
     ap (mark_at wanted) part.stands ∙ read
@@ -129,21 +129,21 @@ mark-has wanted state y e =
     let x = bind_some (first_mark state) _ y e in
     ap (begins_mark wanted) x.1 ∙ has-taken wanted x.0.0 x.0.1 x.0.2 y x.2
 
-pub punct-takes : (wanted : Punctuation) (state : State) (span : Span) (rest : State) → punct_at wanted state ≡ Some (span, rest) → Begins (punct wanted span) state rest
+pub punct-sound : (wanted : Punctuation) (state : State) (span : Span) (rest : State) → punct_at wanted state ≡ Some (span, rest) → Begins (punct wanted span) state rest
 unfolding punct_at
-punct-takes wanted state span rest e =
+punct-sound wanted state span rest e =
     let x = bind_some (mark_at wanted state) _ (span, rest) e in
     let k = left x.0.0.glued (Some (x.0.0.span, x.0.1)) (span, rest) x.2 in
     let is : Span × State → Type 0 = λ y. Begins (punct wanted y.0) state y.1 in
-    let begins : Begins (mark wanted x.0.0) state x.0.1 = mark-takes wanted state x.0.0 x.0.1 x.1 in
+    let begins : Begins (mark wanted x.0.0) state x.0.1 = mark-sound wanted state x.0.0 x.0.1 x.1 in
     let plain : Begins (punct wanted x.0.0.span) state x.0.1 = subst (λ g. Begins (record { kind = kind.Punctuation wanted; span = x.0.0.span; glued = g }) state x.0.1) k.0 begins in
     subst is (some_is (x.0.0.span, x.0.1) (span, rest) k.1) plain
 
-pub punct-again : (wanted : Punctuation) (state : State) (span : Span) (rest : State) → Begins (punct wanted span) state rest → punct_at wanted state ≡ Some (span, rest)
+pub punct-complete : (wanted : Punctuation) (state : State) (span : Span) (rest : State) → Begins (punct wanted span) state rest → punct_at wanted state ≡ Some (span, rest)
 unfolding punct_at
-punct-again wanted state span rest h =
+punct-complete wanted state span rest h =
     let plain : Mark = record { span = span; glued = false } in
-    let read : mark_at wanted state ≡ Some (plain, rest) = mark-again wanted state plain rest h in
+    let read : mark_at wanted state ≡ Some (plain, rest) = mark-complete wanted state plain rest h in
     rw read refl
 
 -- Marks beside one another.

@@ -1,5 +1,5 @@
 -- Whole tokens: what is read stands there, and what stands there is read.
-use Rattle.std.proofs.Common.{◌≡◌, ◌≢◌, ◌⊎◌, ℕ, ◌<◌, length, arith, Bool, true, false, cond, if◌then◌else◌, List, [], ◌∷◌, Option, Some, None, refl, sym, ap, subst, ◌∙◌, inl, inr, rules}
+use Rattle.std.proofs.Common.{◌≡◌, ℕ, ◌<◌, length, arith, Bool, true, false, if◌then◌else◌, List, [], ◌∷◌, Option, Some, None, refl, ap, subst, inl, inr, rules}
 use Rattle.std.specs.Str.{bytes_eq}
 use Rattle.std.proofs.lemmas.Slice.Eq.{bytes_eq-Decides}
 use Rattle.tb_perm.specs.declared.span.Span.{Span}
@@ -12,19 +12,18 @@ use Rattle.tb_lex.specs.declared.token.Name.{Name}
 use Rattle.tb_lex.specs.declared.token.Integer.{Integer}
 use Rattle.tb_lex.specs.declared.token.Text.{Text}
 use Rattle.tb_lex.specs.declared.punctuation.Punctuation.{Punctuation}
-use Rattle.tb_ast.specs.declared.piece.Piece.{Piece}
 use Rattle.tb_ast.specs.declared.leaf.Mark.{Mark}
 use Rattle.tb_ast.specs.declared.leaf.Ident.{Ident}
 use Rattle.tb_ast.specs.declared.leaf.Lifetime.{Lifetime}
 use Rattle.tb_ast.specs.declared.leaf.IntLiteral.{IntLiteral}
 use Rattle.tb_ast.specs.declared.leaf.TextLiteral.{TextLiteral}
 use Rattle.tb_ast.specs.Pieces.{piece, mark, keyword, word, ident, lifetime, number, text_piece}
-use Rattle.tb_ast.specs.Joined.{token_of, with_kind, joint}
+use Rattle.tb_ast.specs.Joined.{with_kind}
 use Rattle.tb_syntax.specs.Reading.{◌>>=◌}
-use Rattle.tb_syntax.specs.State.{State, IsPart, Begins}
-use Rattle.tb_syntax.specs.Marks.{mark_of, first_mark, begins_mark, has_mark}
+use Rattle.tb_syntax.specs.State.{State, Begins}
+use Rattle.tb_syntax.specs.Marks.{mark_of, begins_mark, has_mark}
 use Rattle.tb_syntax.specs.Leaves.{token_at, is_keyword, name_in, lifetime_in, integer_in, text_in, keyword_at, name_at, word_at, lifetime_at, number_at, text_at, passes, has_keyword, has_name, has_lifetime, is_name}
-use Rattle.tb_syntax.proofs.Options.{bind_some, kept, left, chosen, some_is}
+use Rattle.tb_syntax.proofs.Options.{bind_some, kept, some_is}
 
 abbrev marked : Punctuation → Mark → State → Option (Punctuation × Mark × State)
 marked found at state = Some (found, at, state)
@@ -40,9 +39,9 @@ token-glued k span false state token rest e =
     let is : Token × State → Type 0 = λ y. Begins (piece y.0.kind y.0.span) (record { kind = k; span = span; glued = false } ∷ state) y.1 in
     subst is (some_is (record { kind = k; span = span }, state) (token, rest) e) (inl refl)
 
-pub token-takes : (state : State) (token : Token) (rest : State) → token_at state ≡ Some (token, rest) → Begins (piece token.kind token.span) state rest
-token-takes [] token rest e = absurd cc
-token-takes (first ∷ state) token rest e = token-glued first.kind first.span first.glued state token rest e
+pub token-sound : (state : State) (token : Token) (rest : State) → token_at state ≡ Some (token, rest) → Begins (piece token.kind token.span) state rest
+token-sound [] token rest e = absurd cc
+token-sound (first ∷ state) token rest e = token-glued first.kind first.span first.glued state token rest e
 
 -- no part of a token but a mark stands at the front
 no-part : (k : TokenKind) (other : TokenKind) (glued : Bool) → mark_of k ≡ None → (if glued then with_kind k other else None) ≡ None
@@ -50,9 +49,9 @@ no-part k other false e = refl
 no-part (kind.Punctuation p) other true e = absurd cc
 no-part k other true e = refl
 
-pub token-again : (k : TokenKind) (span : Span) (state rest : State) → mark_of k ≡ None → Begins (piece k span) state rest → token_at state ≡ Some (record { kind = k; span = span }, rest)
-token-again k span state rest plain (inl e) = rw e refl
-token-again k span state rest plain (inr part) =
+pub token-complete : (k : TokenKind) (span : Span) (state rest : State) → mark_of k ≡ None → Begins (piece k span) state rest → token_at state ≡ Some (record { kind = k; span = span }, rest)
+token-complete k span state rest plain (inl e) = rw e refl
+token-complete k span state rest plain (inr part) =
     let none = no-part k part.left.kind part.left.glued plain in
     let some = part.joint in
     absurd cc
@@ -66,45 +65,45 @@ keyword_is w k e = absurd cc
 pub keyword_self : (w : Keyword) → (keyword_law.ghosts).eq w w ≡ true
 keyword_self w = search rules
 
-pub keyword-takes : (w : Keyword) (state : State) (span : Span) (rest : State) → keyword_at w state ≡ Some (span, rest) → Begins (keyword w span) state rest
+pub keyword-sound : (w : Keyword) (state : State) (span : Span) (rest : State) → keyword_at w state ≡ Some (span, rest) → Begins (keyword w span) state rest
 unfolding keyword_at
-keyword-takes w state span rest e =
+keyword-sound w state span rest e =
     let x = bind_some (token_at state) _ (span, rest) e in
     let k = kept (is_keyword w x.0.0.kind) (Some (x.0.0.span, x.0.1)) (span, rest) x.2 in
     let is : Span × State → Type 0 = λ y. Begins (keyword w y.0) state y.1 in
-    let begins = token-takes state x.0.0 x.0.1 x.1 in
+    let begins = token-sound state x.0.0 x.0.1 x.1 in
     subst is (some_is (x.0.0.span, x.0.1) (span, rest) k.1) (subst (λ a. Begins (piece a x.0.0.span) state x.0.1) (keyword_is w x.0.0.kind k.0) begins)
 
-pub keyword-again : (w : Keyword) (state : State) (span : Span) (rest : State) → Begins (keyword w span) state rest → keyword_at w state ≡ Some (span, rest)
+pub keyword-complete : (w : Keyword) (state : State) (span : Span) (rest : State) → Begins (keyword w span) state rest → keyword_at w state ≡ Some (span, rest)
 unfolding keyword_at
-keyword-again w state span rest h =
-    let t = token-again (kind.Keyword w) span state rest refl h in
+keyword-complete w state span rest h =
+    let t = token-complete (kind.Keyword w) span state rest refl h in
     rw t (rw (keyword_self w) refl)
 
 pub keyword-has : (w : Keyword) (state : State) (span : Span) (rest : State) → Begins (keyword w span) state rest → has_keyword w state ≡ true
 unfolding has_keyword
-keyword-has w state span rest h = rw (token-again (kind.Keyword w) span state rest refl h) (keyword_self w)
+keyword-has w state span rest h = rw (token-complete (kind.Keyword w) span state rest refl h) (keyword_self w)
 
 name_is : (k : TokenKind) (name : Name) → name_in k ≡ Some name → k ≡ kind.Name name
 name_is (kind.Name found) name e = ap kind.Name (some_is found name e)
 name_is k name e = absurd cc
 
-pub name-takes : (state : State) (name : Ident) (rest : State) → name_at state ≡ Some (name, rest) → Begins (ident name) state rest
+pub name-sound : (state : State) (name : Ident) (rest : State) → name_at state ≡ Some (name, rest) → Begins (ident name) state rest
 unfolding name_at
-name-takes state name rest e =
+name-sound state name rest e =
     let x = bind_some (token_at state) _ (name, rest) e in
     let n = bind_some (name_in x.0.0.kind) _ (name, rest) x.2 in
     let is : Ident × State → Type 0 = λ y. Begins (ident y.0) state y.1 in
-    let begins = token-takes state x.0.0 x.0.1 x.1 in
+    let begins = token-sound state x.0.0 x.0.1 x.1 in
     subst is (some_is (record { name = n.0; span = x.0.0.span }, x.0.1) (name, rest) n.2) (subst (λ a. Begins (piece a x.0.0.span) state x.0.1) (name_is x.0.0.kind n.0 n.1) begins)
 
-pub name-again : (state : State) (name : Ident) (rest : State) → Begins (ident name) state rest → name_at state ≡ Some (name, rest)
+pub name-complete : (state : State) (name : Ident) (rest : State) → Begins (ident name) state rest → name_at state ≡ Some (name, rest)
 unfolding name_at
-name-again state name rest h = rw (token-again (kind.Name name.name) name.span state rest refl h) refl
+name-complete state name rest h = rw (token-complete (kind.Name name.name) name.span state rest refl h) refl
 
 pub name-has : (state : State) (name : Ident) (rest : State) → Begins (ident name) state rest → has_name state ≡ true
 unfolding has_name
-name-has state name rest h = rw (token-again (kind.Name name.name) name.span state rest refl h) refl
+name-has state name rest h = rw (token-complete (kind.Name name.name) name.span state rest refl h) refl
 
 has-named : (k : TokenKind) → is_name k ≡ true → (name : Name) × (name_in k ≡ Some name)
 has-named (kind.Name name) e = (name, refl)
@@ -130,73 +129,73 @@ lifetime_is : (k : TokenKind) (name : Name) → lifetime_in k ≡ Some name → 
 lifetime_is (kind.Lifetime found) name e = ap kind.Lifetime (some_is found name e)
 lifetime_is k name e = absurd cc
 
-pub lifetime-takes : (state : State) (name : Lifetime) (rest : State) → lifetime_at state ≡ Some (name, rest) → Begins (lifetime name) state rest
+pub lifetime-sound : (state : State) (name : Lifetime) (rest : State) → lifetime_at state ≡ Some (name, rest) → Begins (lifetime name) state rest
 unfolding lifetime_at
-lifetime-takes state name rest e =
+lifetime-sound state name rest e =
     let x = bind_some (token_at state) _ (name, rest) e in
     let n = bind_some (lifetime_in x.0.0.kind) _ (name, rest) x.2 in
     let is : Lifetime × State → Type 0 = λ y. Begins (lifetime y.0) state y.1 in
-    let begins = token-takes state x.0.0 x.0.1 x.1 in
+    let begins = token-sound state x.0.0 x.0.1 x.1 in
     subst is (some_is (record { name = n.0; span = x.0.0.span }, x.0.1) (name, rest) n.2) (subst (λ a. Begins (piece a x.0.0.span) state x.0.1) (lifetime_is x.0.0.kind n.0 n.1) begins)
 
-pub lifetime-again : (state : State) (name : Lifetime) (rest : State) → Begins (lifetime name) state rest → lifetime_at state ≡ Some (name, rest)
+pub lifetime-complete : (state : State) (name : Lifetime) (rest : State) → Begins (lifetime name) state rest → lifetime_at state ≡ Some (name, rest)
 unfolding lifetime_at
-lifetime-again state name rest h = rw (token-again (kind.Lifetime name.name) name.span state rest refl h) refl
+lifetime-complete state name rest h = rw (token-complete (kind.Lifetime name.name) name.span state rest refl h) refl
 
 pub lifetime-has : (state : State) (name : Lifetime) (rest : State) → Begins (lifetime name) state rest → has_lifetime state ≡ true
 unfolding has_lifetime
-lifetime-has state name rest h = rw (token-again (kind.Lifetime name.name) name.span state rest refl h) refl
+lifetime-has state name rest h = rw (token-complete (kind.Lifetime name.name) name.span state rest refl h) refl
 
 integer_is : (k : TokenKind) (integer : Integer) → integer_in k ≡ Some integer → k ≡ kind.Integer integer
 integer_is (kind.Integer found) integer e = ap kind.Integer (some_is found integer e)
 integer_is k integer e = absurd cc
 
-pub number-takes : (state : State) (int : IntLiteral) (rest : State) → number_at state ≡ Some (int, rest) → Begins (number int) state rest
+pub number-sound : (state : State) (int : IntLiteral) (rest : State) → number_at state ≡ Some (int, rest) → Begins (number int) state rest
 unfolding number_at
-number-takes state int rest e =
+number-sound state int rest e =
     let x = bind_some (token_at state) _ (int, rest) e in
     let n = bind_some (integer_in x.0.0.kind) _ (int, rest) x.2 in
     let is : IntLiteral × State → Type 0 = λ y. Begins (number y.0) state y.1 in
-    let begins = token-takes state x.0.0 x.0.1 x.1 in
+    let begins = token-sound state x.0.0 x.0.1 x.1 in
     subst is (some_is (record { integer = n.0; span = x.0.0.span }, x.0.1) (int, rest) n.2) (subst (λ a. Begins (piece a x.0.0.span) state x.0.1) (integer_is x.0.0.kind n.0 n.1) begins)
 
-pub number-again : (state : State) (int : IntLiteral) (rest : State) → Begins (number int) state rest → number_at state ≡ Some (int, rest)
+pub number-complete : (state : State) (int : IntLiteral) (rest : State) → Begins (number int) state rest → number_at state ≡ Some (int, rest)
 unfolding number_at
-number-again state int rest h = rw (token-again (kind.Integer int.integer) int.span state rest refl h) refl
+number-complete state int rest h = rw (token-complete (kind.Integer int.integer) int.span state rest refl h) refl
 
 text_is : (k : TokenKind) (text : Text) → text_in k ≡ Some text → k ≡ kind.Text text
 text_is (kind.Text found) text e = ap kind.Text (some_is found text e)
 text_is k text e = absurd cc
 
-pub text-takes : (state : State) (text : TextLiteral) (rest : State) → text_at state ≡ Some (text, rest) → Begins (text_piece text) state rest
+pub text-sound : (state : State) (text : TextLiteral) (rest : State) → text_at state ≡ Some (text, rest) → Begins (text_piece text) state rest
 unfolding text_at
-text-takes state text rest e =
+text-sound state text rest e =
     let x = bind_some (token_at state) _ (text, rest) e in
     let n = bind_some (text_in x.0.0.kind) _ (text, rest) x.2 in
     let is : TextLiteral × State → Type 0 = λ y. Begins (text_piece y.0) state y.1 in
-    let begins = token-takes state x.0.0 x.0.1 x.1 in
+    let begins = token-sound state x.0.0 x.0.1 x.1 in
     subst is (some_is (record { text = n.0; span = x.0.0.span }, x.0.1) (text, rest) n.2) (subst (λ a. Begins (piece a x.0.0.span) state x.0.1) (text_is x.0.0.kind n.0 n.1) begins)
 
-pub text-again : (state : State) (text : TextLiteral) (rest : State) → Begins (text_piece text) state rest → text_at state ≡ Some (text, rest)
+pub text-complete : (state : State) (text : TextLiteral) (rest : State) → Begins (text_piece text) state rest → text_at state ≡ Some (text, rest)
 unfolding text_at
-text-again state text rest h = rw (token-again (kind.Text text.text) text.span state rest refl h) refl
+text-complete state text rest h = rw (token-complete (kind.Text text.text) text.span state rest refl h) refl
 
 -- a word is a name with these bytes
-pub word-takes : (bytes : List ℕ) (state : State) (span : Span) (rest : State) → word_at bytes state ≡ Some (span, rest) → Begins (word bytes span) state rest
+pub word-sound : (bytes : List ℕ) (state : State) (span : Span) (rest : State) → word_at bytes state ≡ Some (span, rest) → Begins (word bytes span) state rest
 unfolding word_at
-word-takes bytes state span rest e =
+word-sound bytes state span rest e =
     let x = bind_some (token_at state) _ (span, rest) e in
     let n = bind_some (name_in x.0.0.kind) _ (span, rest) x.2 in
     let k = kept (bytes_eq n.0.bytes bytes) (Some (x.0.0.span, x.0.1)) (span, rest) n.2 in
     let is : Span × State → Type 0 = λ y. Begins (word bytes y.0) state y.1 in
-    let begins = token-takes state x.0.0 x.0.1 x.1 in
+    let begins = token-sound state x.0.0 x.0.1 x.1 in
     let named : Begins (piece (kind.Name n.0) x.0.0.span) state x.0.1 = subst (λ a. Begins (piece a x.0.0.span) state x.0.1) (name_is x.0.0.kind n.0 n.1) begins in
     subst is (some_is (x.0.0.span, x.0.1) (span, rest) k.1) (subst (λ (b : List ℕ). Begins (piece (kind.Name (record { bytes = b })) x.0.0.span) state x.0.1) ((bytes_eq-Decides n.0.bytes bytes).0 k.0) named)
 
-pub word-again : (bytes : List ℕ) (state : State) (span : Span) (rest : State) → Begins (word bytes span) state rest → word_at bytes state ≡ Some (span, rest)
+pub word-complete : (bytes : List ℕ) (state : State) (span : Span) (rest : State) → Begins (word bytes span) state rest → word_at bytes state ≡ Some (span, rest)
 unfolding word_at
-word-again bytes state span rest h =
-    rw (token-again (kind.Name (record { bytes = bytes })) span state rest refl h) (rw ((bytes_eq-Decides bytes bytes).1 refl) refl)
+word-complete bytes state span rest h =
+    rw (token-complete (kind.Name (record { bytes = bytes })) span state rest refl h) (rw ((bytes_eq-Decides bytes bytes).1 refl) refl)
 
 -- a token that is no mark is none of the marks
 no-mark : (k : TokenKind) (wanted : Punctuation) (at : Mark) (state : State) → mark_of k ≡ None → begins_mark wanted (mark_of k >>= λ found. marked found at state) ≡ false

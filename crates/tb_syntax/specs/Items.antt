@@ -1,9 +1,9 @@
 -- Reading `use` items, structs, `extern` blocks and the heads of functions.
-use Rattle.std.specs.Prelude.{◌≡◌, ℕ, Bool, true, false, if◌then◌else◌, List, [], ◌∷◌, ◌++◌, map, Option, None, Some}
+use Rattle.std.specs.Prelude.{◌≡◌, ℕ, if◌then◌else◌, ◌∷◌, ◌++◌, map, Option, None, Some}
 use Rattle.std.specs.List.{AllByRecursion}
 use Rattle.tb_perm.specs.declared.span.Span.{Span}
 use Rattle.tb_lex.specs.declared.keyword.Keyword.TheVariants as keyword_of
-use Rattle.tb_lex.specs.declared.punctuation.Punctuation.TheVariants.{OpenParen, CloseParen, OpenBrace, CloseBrace, Semicolon, Comma, Colon, PathSep, Lt, Gt, Plus, Arrow}
+use Rattle.tb_lex.specs.declared.punctuation.Punctuation.TheVariants.{OpenParen, CloseParen, OpenBrace, CloseBrace, Semicolon, Comma, Colon, PathSep, Lt, Gt, Plus}
 use Rattle.tb_ast.specs.declared.leaf.Path.{Path}
 use Rattle.tb_ast.specs.declared.item.Use.{Use}
 use Rattle.tb_ast.specs.declared.item.UseGroup.{UseGroup}

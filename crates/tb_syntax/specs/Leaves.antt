@@ -1,5 +1,5 @@
 -- Reading whole tokens: keywords, names, words, lifetimes, integers and texts.
-use Rattle.std.specs.Prelude.{◌≡◌, ℕ, Bool, true, false, if◌then◌else◌, List, [], ◌∷◌, Option, None, Some}
+use Rattle.std.specs.Prelude.{ℕ, Bool, true, false, if◌then◌else◌, List, [], ◌∷◌, Option, None, Some}
 use Rattle.std.specs.Str.{bytes_eq}
 use Rattle.tb_perm.specs.declared.span.Span.{Span}
 use Rattle.tb_lex.specs.declared.keyword.Keyword.{Keyword}
@@ -10,7 +10,6 @@ use Rattle.tb_lex.specs.declared.token.Token.{Token}
 use Rattle.tb_lex.specs.declared.token.Name.{Name}
 use Rattle.tb_lex.specs.declared.token.Integer.{Integer}
 use Rattle.tb_lex.specs.declared.token.Text.{Text}
-use Rattle.tb_ast.specs.declared.piece.Piece.{Piece}
 use Rattle.tb_ast.specs.declared.leaf.Ident.{Ident}
 use Rattle.tb_ast.specs.declared.leaf.Lifetime.{Lifetime}
 use Rattle.tb_ast.specs.declared.leaf.IntLiteral.{IntLiteral}

@@ -1,5 +1,5 @@
 -- Reading values with a mark between them.
-use Rattle.std.specs.Prelude.{◌≡◌, ℕ, zero, suc, ◌+◌, ◌⊎◌, Bool, true, false, if◌then◌else◌, List, [], ◌∷◌, ◌++◌, length, Option, None, Some}
+use Rattle.std.specs.Prelude.{◌≡◌, ℕ, zero, suc, ◌+◌, ◌⊎◌, Bool, if◌then◌else◌, List, [], ◌∷◌, ◌++◌, length, Option, None, Some}
 use Rattle.tb_perm.specs.declared.span.Span.{Span}
 use Rattle.tb_lex.specs.declared.punctuation.Punctuation.{Punctuation}
 use Rattle.tb_lex.specs.declared.punctuation.Punctuation.TheVariants.{Comma}

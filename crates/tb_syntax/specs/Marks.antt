@@ -1,12 +1,11 @@
 -- Reading marks: where `&` is wanted it is taken off `&&`, and `>` off `>>`, `>=` and `>>=`.
-use Rattle.std.specs.Prelude.{◌≡◌, ℕ, Bool, true, false, ◌||◌, if◌then◌else◌, List, [], ◌∷◌, Option, None, Some}
+use Rattle.std.specs.Prelude.{Bool, true, false, ◌||◌, if◌then◌else◌, [], ◌∷◌, Option, None, Some}
 use Rattle.tb_perm.specs.declared.span.Span.{Span}
 use Rattle.tb_lex.specs.declared.punctuation.Punctuation.{Punctuation}
 use Rattle.tb_lex.specs.declared.punctuation.Punctuation.TheVariants.{And, AndAnd, Gt, Ge, Shr, ShrEq, Eq}
 use Rattle.tb_lex.specs.contracts.punctuation.PunctuationPartialEq.TheImpl as punctuation_law
 use Rattle.tb_lex.specs.declared.token.TokenKind.{TokenKind}
 use Rattle.tb_lex.specs.declared.token.TokenKind.TheVariants as kind
-use Rattle.tb_ast.specs.declared.piece.Piece.{Piece}
 use Rattle.tb_ast.specs.declared.leaf.Mark.{Mark}
 use Rattle.tb_syntax.specs.Reading.{◌>>=◌}
 use Rattle.tb_syntax.specs.State.{State, left_of, behind}

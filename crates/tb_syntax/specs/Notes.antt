@@ -1,5 +1,5 @@
 -- Reading types behind a mark: `: T`, `-> T` and `::<T, ..>`.
-use Rattle.std.specs.Prelude.{◌≡◌, ℕ, Bool, true, false, if◌then◌else◌, List, [], ◌∷◌, Option, None, Some}
+use Rattle.std.specs.Prelude.{◌≡◌, ℕ, true, false, if◌then◌else◌, Option, None, Some}
 use Rattle.std.specs.List.{AllByRecursion}
 use Rattle.tb_lex.specs.declared.punctuation.Punctuation.TheVariants.{Colon, Arrow, PathSep, Lt, Gt}
 use Rattle.tb_ast.specs.declared.written.Turbofish.{Turbofish}

@@ -1,5 +1,5 @@
 -- Reading names with a mark between them.
-use Rattle.std.specs.Prelude.{◌≡◌, ℕ, ◌+◌, Bool, true, false, not, ◌&&◌, if◌then◌else◌, List, [], ◌∷◌, length, Option, None, Some}
+use Rattle.std.specs.Prelude.{◌≡◌, ◌+◌, Bool, false, not, ◌&&◌, List, [], ◌∷◌, length, Option, None, Some}
 use Rattle.tb_perm.specs.declared.span.Span.{Span}
 use Rattle.tb_lex.specs.declared.punctuation.Punctuation.{Punctuation}
 use Rattle.tb_lex.specs.declared.punctuation.Punctuation.TheVariants.{PathSep}

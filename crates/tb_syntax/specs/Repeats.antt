@@ -1,5 +1,5 @@
 -- Reading one after another.
-use Rattle.std.specs.Prelude.{◌≡◌, ℕ, zero, suc, Bool, true, false, if◌then◌else◌, List, [], ◌∷◌, ◌++◌, length, Option, None, Some}
+use Rattle.std.specs.Prelude.{ℕ, zero, suc, Bool, if◌then◌else◌, List, [], ◌∷◌, ◌++◌, length, Option, None, Some}
 use Rattle.tb_syntax.specs.Reading.{◌>>=◌}
 use Rattle.tb_syntax.specs.State.{State}
 

@@ -1,9 +1,8 @@
 -- Reading types: what stands before the first type in a type, and then what lies behind it.
-use Rattle.std.specs.Prelude.{◌≡◌, ℕ, zero, suc, Bool, true, false, nat_le, ◌==◌, if◌then◌else◌, List, [], ◌∷◌, length, Option, None, Some}
+use Rattle.std.specs.Prelude.{ℕ, zero, suc, nat_le, ◌==◌, if◌then◌else◌, length, Option, None, Some}
 use Rattle.tb_perm.specs.declared.span.Span.{Span}
 use Rattle.tb_lex.specs.declared.keyword.Keyword.TheVariants.{Const, Mut}
-use Rattle.tb_lex.specs.declared.punctuation.Punctuation.{Punctuation}
-use Rattle.tb_lex.specs.declared.punctuation.Punctuation.TheVariants.{OpenParen, CloseParen, OpenBracket, CloseBracket, Comma, Semicolon, Colon, PathSep, Lt, Gt, And, Star}
+use Rattle.tb_lex.specs.declared.punctuation.Punctuation.TheVariants.{OpenParen, CloseParen, OpenBracket, CloseBracket, Semicolon, Lt, Gt, And, Star}
 use Rattle.tb_lex.specs.declared.suffix.Suffix.{Suffix}
 use Rattle.tb_ast.specs.declared.leaf.IntLiteral.{IntLiteral}
 use Rattle.tb_ast.specs.declared.leaf.Mark.{Mark}
@@ -11,10 +10,10 @@ use Rattle.tb_ast.specs.declared.leaf.Lifetime.{Lifetime}
 use Rattle.tb_ast.specs.declared.leaf.Path.{Path}
 use Rattle.tb_ast.specs.declared.written.PointerKind.{PointerKind}
 use Rattle.tb_ast.specs.declared.written.PointerKind.TheVariants as pointer
-use Rattle.tb_ast.specs.declared.written.TypeExpr.{TypeExpr, roll-TypeExpr, out-TypeExpr}
+use Rattle.tb_ast.specs.declared.written.TypeExpr.{TypeExpr, roll-TypeExpr}
 use Rattle.tb_ast.specs.declared.written.TypeArgument.{TypeArgument, roll-TypeArgument}
 use Rattle.tb_ast.specs.declared.written.TypeArguments.{TypeArguments, roll-TypeArguments, out-TypeArguments}
-use Rattle.tb_ast.specs.declared.written.TypeArgument.TheOpen.{TypeExpr-F, TypeArgument-F, TypeArguments-F}
+use Rattle.tb_ast.specs.declared.written.TypeArgument.TheOpen.{TypeArgument-F}
 use Rattle.tb_ast.specs.declared.written.TypeArgument.TheOpen.TypeExpr-F.{Unit, Tuple, Slice, Array, Reference, Pointer, Path as PathType}
 use Rattle.tb_ast.specs.Spans.{type_span}
 use Rattle.tb_syntax.specs.declared.types.TypeFront.{TypeFront}

@@ -1,11 +1,11 @@
 -- How a type is written beyond its pieces: its place, its commas, its lengths and its depth.
-use Rattle.std.specs.Prelude.{◌≡◌, ◌≤◌, ℕ, zero, suc, Bool, true, false, ◌&&◌, not, List, [], ◌∷◌, length, Option, None, Some}
+use Rattle.std.specs.Prelude.{◌≡◌, ◌≤◌, ℕ, zero, suc, Bool, true, ◌&&◌, not, length, None, Some}
 use Rattle.std.specs.List.{AllByRecursion}
 use Rattle.tb_lex.specs.declared.punctuation.Punctuation.TheVariants.{PathSep, Lt}
 use Rattle.tb_ast.specs.declared.written.TypeExpr.{TypeExpr, out-TypeExpr}
 use Rattle.tb_ast.specs.declared.written.TypeArgument.{TypeArgument, out-TypeArgument}
 use Rattle.tb_ast.specs.declared.written.TypeArguments.{TypeArguments, out-TypeArguments}
-use Rattle.tb_ast.specs.declared.written.TypeArgument.TheOpen.{TypeExpr-F, TypeArgument-F, TypeArguments-F}
+use Rattle.tb_ast.specs.declared.written.TypeArgument.TheOpen.{TypeExpr-F, TypeArgument-F}
 use Rattle.tb_ast.specs.declared.written.TypeArgument.TheOpen.TypeExpr-F.{Unit as Nothing, Tuple, Slice, Array, Reference, Pointer, Path as PathType}
 use Rattle.tb_ast.specs.declared.written.TypeArgument.TheFolds.{fold-TypeExpr}
 use Rattle.tb_ast.specs.Types.{type_pieces}

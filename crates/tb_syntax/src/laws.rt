@@ -39,40 +39,40 @@ pub fn law_pieces()
 
 /// Marks, keywords and names.
 pub fn law_tokens()
-    ensures mark_takes { (wanted : Punctuation) (state : State) (m : Mark) (rest : State) → mark_at wanted state ≡ Some (m, rest) → Begins (mark wanted m) state rest }
-    ensures mark_again { (wanted : Punctuation) (state : State) (m : Mark) (rest : State) → Begins (mark wanted m) state rest → mark_at wanted state ≡ Some (m, rest) }
-    ensures keyword_takes { (word : Keyword) (state : State) (span : Span) (rest : State) → keyword_at word state ≡ Some (span, rest) → Begins (keyword word span) state rest }
-    ensures keyword_again { (word : Keyword) (state : State) (span : Span) (rest : State) → Begins (keyword word span) state rest → keyword_at word state ≡ Some (span, rest) }
-    ensures name_takes { (state : State) (name : Ident) (rest : State) → name_at state ≡ Some (name, rest) → Begins (ident name) state rest }
-    ensures name_again { (state : State) (name : Ident) (rest : State) → Begins (ident name) state rest → name_at state ≡ Some (name, rest) }
+    ensures mark_sound { (wanted : Punctuation) (state : State) (m : Mark) (rest : State) → mark_at wanted state ≡ Some (m, rest) → Begins (mark wanted m) state rest }
+    ensures mark_complete { (wanted : Punctuation) (state : State) (m : Mark) (rest : State) → Begins (mark wanted m) state rest → mark_at wanted state ≡ Some (m, rest) }
+    ensures keyword_sound { (word : Keyword) (state : State) (span : Span) (rest : State) → keyword_at word state ≡ Some (span, rest) → Begins (keyword word span) state rest }
+    ensures keyword_complete { (word : Keyword) (state : State) (span : Span) (rest : State) → Begins (keyword word span) state rest → keyword_at word state ≡ Some (span, rest) }
+    ensures name_sound { (state : State) (name : Ident) (rest : State) → name_at state ≡ Some (name, rest) → Begins (ident name) state rest }
+    ensures name_complete { (state : State) (name : Ident) (rest : State) → Begins (ident name) state rest → name_at state ≡ Some (name, rest) }
 {}
 
 /// Paths, and types behind `:` and `::`.
 pub fn law_paths()
-    ensures path_takes { (state : State) (path : Path) (rest : State) → path_at state ≡ Some (path, rest) → Stands (path_pieces path) state rest × IsPath path × (goes_on PathSep rest ≡ false) }
-    ensures path_again { (state : State) (path : Path) (rest : State) → IsPath path → goes_on PathSep rest ≡ false → Stands (path_pieces path) state rest → path_at state ≡ Some (path, rest) }
-    ensures note_takes { (depth : ℕ) (state : State) (y : Option TypeNote × State) → note_at depth state ≡ Some y → Stands (note_pieces y.0) state y.1 × IsNote depth y.0 × NoteEnds y.0 y.1 }
-    ensures note_again { (depth : ℕ) (state : State) (note : Option TypeNote) (rest : State) → IsNote depth note → NoteEnds note rest → Stands (note_pieces note) state rest → note_at depth state ≡ Some (note, rest) }
-    ensures turbofish_takes { (depth : ℕ) (state : State) (y : Option Turbofish × State) → turbofish_at depth state ≡ Some y → Stands (turbofish_pieces y.0) state y.1 × IsTurbofish depth y.0 × TurbofishEnds y.0 y.1 }
-    ensures turbofish_again { (depth : ℕ) (state : State) (turbofish : Option Turbofish) (rest : State) → IsTurbofish depth turbofish → TurbofishEnds turbofish rest → Stands (turbofish_pieces turbofish) state rest → turbofish_at depth state ≡ Some (turbofish, rest) }
+    ensures path_sound { (state : State) (path : Path) (rest : State) → path_at state ≡ Some (path, rest) → Stands (path_pieces path) state rest × IsPath path × (goes_on PathSep rest ≡ false) }
+    ensures path_complete { (state : State) (path : Path) (rest : State) → IsPath path → goes_on PathSep rest ≡ false → Stands (path_pieces path) state rest → path_at state ≡ Some (path, rest) }
+    ensures note_sound { (depth : ℕ) (state : State) (y : Option TypeNote × State) → note_at depth state ≡ Some y → Stands (note_pieces y.0) state y.1 × IsNote depth y.0 × NoteEnds y.0 y.1 }
+    ensures note_complete { (depth : ℕ) (state : State) (note : Option TypeNote) (rest : State) → IsNote depth note → NoteEnds note rest → Stands (note_pieces note) state rest → note_at depth state ≡ Some (note, rest) }
+    ensures turbofish_sound { (depth : ℕ) (state : State) (y : Option Turbofish × State) → turbofish_at depth state ≡ Some y → Stands (turbofish_pieces y.0) state y.1 × IsTurbofish depth y.0 × TurbofishEnds y.0 y.1 }
+    ensures turbofish_complete { (depth : ℕ) (state : State) (turbofish : Option Turbofish) (rest : State) → IsTurbofish depth turbofish → TurbofishEnds turbofish rest → Stands (turbofish_pieces turbofish) state rest → turbofish_at depth state ≡ Some (turbofish, rest) }
 {}
 
 /// Attributes of the file and of items.
 pub fn law_attributes()
-    ensures takes { (state : State) (list : List Attribute) (rest : State) → attributes_at state ≡ Some (list, rest) → Stands (in_order (map attribute_row list)) state rest × AllByRecursion IsAttribute list × (has_mark Pound rest ≡ false) }
-    ensures again { (state : State) (list : List Attribute) (rest : State) → AllByRecursion IsAttribute list → has_mark Pound rest ≡ false → Stands (in_order (map attribute_row list)) state rest → attributes_at state ≡ Some (list, rest) }
-    ensures inner_takes { (state : State) (list : List InnerAttribute) (rest : State) → inners_at state ≡ Some (list, rest) → Stands (in_order (map inner_row list)) state rest × AllByRecursion IsInner list × (has_inner rest ≡ false) }
-    ensures inner_again { (state : State) (list : List InnerAttribute) (rest : State) → AllByRecursion IsInner list → has_inner rest ≡ false → Stands (in_order (map inner_row list)) state rest → inners_at state ≡ Some (list, rest) }
+    ensures sound { (state : State) (list : List Attribute) (rest : State) → attributes_at state ≡ Some (list, rest) → Stands (in_order (map attribute_row list)) state rest × AllByRecursion IsAttribute list × (has_mark Pound rest ≡ false) }
+    ensures complete { (state : State) (list : List Attribute) (rest : State) → AllByRecursion IsAttribute list → has_mark Pound rest ≡ false → Stands (in_order (map attribute_row list)) state rest → attributes_at state ≡ Some (list, rest) }
+    ensures inner_sound { (state : State) (list : List InnerAttribute) (rest : State) → inners_at state ≡ Some (list, rest) → Stands (in_order (map inner_row list)) state rest × AllByRecursion IsInner list × (has_inner rest ≡ false) }
+    ensures inner_complete { (state : State) (list : List InnerAttribute) (rest : State) → AllByRecursion IsInner list → has_inner rest ≡ false → Stands (in_order (map inner_row list)) state rest → inners_at state ≡ Some (list, rest) }
 {}
 
 /// `use` items, structs, heads of functions and `extern` blocks.
 pub fn law_items()
-    ensures use_takes { (state : State) (item : Use) (rest : State) → use_at state ≡ Some (item, rest) → Stands (use_row item) state rest × IsUse item }
-    ensures use_again { (state : State) (item : Use) (rest : State) → IsUse item → Stands (use_row item) state rest → use_at state ≡ Some (item, rest) }
-    ensures struct_takes { (depth : ℕ) (state : State) (item : Struct) (rest : State) → struct_at depth state ≡ Some (item, rest) → Stands (struct_row item) state rest × IsStruct depth item }
-    ensures struct_again { (depth : ℕ) (state : State) (item : Struct) (rest : State) → IsStruct depth item → Stands (struct_row item) state rest → struct_at depth state ≡ Some (item, rest) }
-    ensures head_takes { (depth : ℕ) (state : State) (y : FunctionHead × State) → head_at depth state ≡ Some y → Stands (head_row y.0) state y.1 × IsHead depth y.0 × ResultEnds y.0.result y.1 }
-    ensures head_again { (depth : ℕ) (state : State) (head : FunctionHead) (rest : State) → IsHead depth head → ResultEnds head.result rest → Stands (head_row head) state rest → head_at depth state ≡ Some (head, rest) }
-    ensures extern_takes { (depth : ℕ) (state : State) (block : ExternBlock) (rest : State) → extern_at depth state ≡ Some (block, rest) → Stands (extern_row block) state rest × IsExtern depth block }
-    ensures extern_again { (depth : ℕ) (state : State) (block : ExternBlock) (rest : State) → IsExtern depth block → Stands (extern_row block) state rest → extern_at depth state ≡ Some (block, rest) }
+    ensures use_sound { (state : State) (item : Use) (rest : State) → use_at state ≡ Some (item, rest) → Stands (use_row item) state rest × IsUse item }
+    ensures use_complete { (state : State) (item : Use) (rest : State) → IsUse item → Stands (use_row item) state rest → use_at state ≡ Some (item, rest) }
+    ensures struct_sound { (depth : ℕ) (state : State) (item : Struct) (rest : State) → struct_at depth state ≡ Some (item, rest) → Stands (struct_row item) state rest × IsStruct depth item }
+    ensures struct_complete { (depth : ℕ) (state : State) (item : Struct) (rest : State) → IsStruct depth item → Stands (struct_row item) state rest → struct_at depth state ≡ Some (item, rest) }
+    ensures head_sound { (depth : ℕ) (state : State) (y : FunctionHead × State) → head_at depth state ≡ Some y → Stands (head_row y.0) state y.1 × IsHead depth y.0 × ResultEnds y.0.result y.1 }
+    ensures head_complete { (depth : ℕ) (state : State) (head : FunctionHead) (rest : State) → IsHead depth head → ResultEnds head.result rest → Stands (head_row head) state rest → head_at depth state ≡ Some (head, rest) }
+    ensures extern_sound { (depth : ℕ) (state : State) (block : ExternBlock) (rest : State) → extern_at depth state ≡ Some (block, rest) → Stands (extern_row block) state rest × IsExtern depth block }
+    ensures extern_complete { (depth : ℕ) (state : State) (block : ExternBlock) (rest : State) → IsExtern depth block → Stands (extern_row block) state rest → extern_at depth state ≡ Some (block, rest) }
 {}

@@ -22,7 +22,7 @@ expressions::longest-returns-in_err-longer t c =
     let p = err_from_is_err_and c.from_residual.result c.from_residual.ensures.1 in
     let go : goes_on (level_of c.loop.e) c.args.most c.loop.rest ≡ true = search rules in
     let below : c.loop.counter < c.args.steps = search rules in
-    rw (p.1, p.2) (no_step c.args.depth (expr_at c.args.depth) c.args.bare c.args.most c.in_err-longer.field-0.0 c.args.steps c.loop.counter c.loop.e c.loop.rest (longest_at c.args.depth (expr_at c.args.depth) c.args.bare c.args.most c.args.steps c.args.left c.args.cursor) below go c.in_err-longer.ensures c.loop.invariant)
+    rw (p.1, p.2) (no_step c.args.depth (expr_at c.args.depth) c.args.place c.args.most c.in_err-longer.field-0.0 c.args.steps c.loop.counter c.loop.e c.loop.rest (longest_at c.args.depth (expr_at c.args.depth) c.args.place c.args.most c.args.steps c.args.left c.args.cursor) below go c.in_err-longer.ensures c.loop.invariant)
 
 pub lists::fields-returns-then-not-has_mark : goal.lists::fields-returns-then-not-has_mark
 lists::fields-returns-then-not-has_mark t c =

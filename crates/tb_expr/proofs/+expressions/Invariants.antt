@@ -53,8 +53,8 @@ invariant-blocks::lines-loop l =
 
 abbrev pub invariant-expressions::longest-loop : goal.invariant-expressions::longest-loop
 invariant-expressions::longest-loop l =
-    longest_at l.depth (expr_at l.depth) l.bare l.most (l.steps - l.counter) l.e l.rest
-    ≡ longest_at l.depth (expr_at l.depth) l.bare l.most l.steps l.fn.left l.fn.cursor
+    longest_at l.depth (expr_at l.depth) l.place l.most (l.steps - l.counter) l.e l.rest
+    ≡ longest_at l.depth (expr_at l.depth) l.place l.most l.steps l.fn.left l.fn.cursor
 
 abbrev pub invariant-lists::values-loop : goal.invariant-lists::values-loop
 invariant-lists::values-loop l =

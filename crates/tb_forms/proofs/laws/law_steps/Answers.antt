@@ -1,13 +1,13 @@
 use Rattle.tb_forms.proofs.Begins.{step-levels, step-operands}
-use Rattle.tb_forms.proofs.StepTakes.{step-takes}
-use Rattle.tb_forms.proofs.StepAgain.{step-again}
+use Rattle.tb_forms.proofs.StepSound.{step-sound}
+use Rattle.tb_forms.proofs.StepComplete.{step-complete}
 use Rattle.tb_forms.proofs.laws.law_steps.Goals as goal
 
-pub returns-clause-takes : goal.returns-clause-takes
-returns-clause-takes c = step-takes
+pub returns-clause-sound : goal.returns-clause-sound
+returns-clause-sound c = step-sound
 
-pub returns-clause-again : goal.returns-clause-again
-returns-clause-again c = step-again
+pub returns-clause-complete : goal.returns-clause-complete
+returns-clause-complete c = step-complete
 
 pub returns-clause-levels : goal.returns-clause-levels
 returns-clause-levels c = step-levels

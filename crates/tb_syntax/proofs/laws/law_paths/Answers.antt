@@ -1,21 +1,21 @@
-use Rattle.tb_syntax.proofs.Named.{path-takes, path-again}
-use Rattle.tb_syntax.proofs.Noted.{note-takes, note-again, turbofish-takes, turbofish-again}
+use Rattle.tb_syntax.proofs.Named.{path-sound, path-complete}
+use Rattle.tb_syntax.proofs.Noted.{note-sound, note-complete, turbofish-sound, turbofish-complete}
 use Rattle.tb_syntax.proofs.laws.law_paths.Goals as goal
 
-pub returns-clause-path_takes : goal.returns-clause-path_takes
-returns-clause-path_takes c = path-takes
+pub returns-clause-path_sound : goal.returns-clause-path_sound
+returns-clause-path_sound c = path-sound
 
-pub returns-clause-path_again : goal.returns-clause-path_again
-returns-clause-path_again c = path-again
+pub returns-clause-path_complete : goal.returns-clause-path_complete
+returns-clause-path_complete c = path-complete
 
-pub returns-clause-note_takes : goal.returns-clause-note_takes
-returns-clause-note_takes c = note-takes
+pub returns-clause-note_sound : goal.returns-clause-note_sound
+returns-clause-note_sound c = note-sound
 
-pub returns-clause-note_again : goal.returns-clause-note_again
-returns-clause-note_again c = note-again
+pub returns-clause-note_complete : goal.returns-clause-note_complete
+returns-clause-note_complete c = note-complete
 
-pub returns-clause-turbofish_takes : goal.returns-clause-turbofish_takes
-returns-clause-turbofish_takes c = turbofish-takes
+pub returns-clause-turbofish_sound : goal.returns-clause-turbofish_sound
+returns-clause-turbofish_sound c = turbofish-sound
 
-pub returns-clause-turbofish_again : goal.returns-clause-turbofish_again
-returns-clause-turbofish_again c = turbofish-again
+pub returns-clause-turbofish_complete : goal.returns-clause-turbofish_complete
+returns-clause-turbofish_complete c = turbofish-complete

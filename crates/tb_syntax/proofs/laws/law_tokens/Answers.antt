@@ -1,21 +1,21 @@
-use Rattle.tb_syntax.proofs.Marks.{mark-takes, mark-again}
-use Rattle.tb_syntax.proofs.Tokens.{keyword-takes, keyword-again, name-takes, name-again}
+use Rattle.tb_syntax.proofs.Marks.{mark-sound, mark-complete}
+use Rattle.tb_syntax.proofs.Tokens.{keyword-sound, keyword-complete, name-sound, name-complete}
 use Rattle.tb_syntax.proofs.laws.law_tokens.Goals as goal
 
-pub returns-clause-mark_takes : goal.returns-clause-mark_takes
-returns-clause-mark_takes c = mark-takes
+pub returns-clause-mark_sound : goal.returns-clause-mark_sound
+returns-clause-mark_sound c = mark-sound
 
-pub returns-clause-mark_again : goal.returns-clause-mark_again
-returns-clause-mark_again c = mark-again
+pub returns-clause-mark_complete : goal.returns-clause-mark_complete
+returns-clause-mark_complete c = mark-complete
 
-pub returns-clause-keyword_takes : goal.returns-clause-keyword_takes
-returns-clause-keyword_takes c = keyword-takes
+pub returns-clause-keyword_sound : goal.returns-clause-keyword_sound
+returns-clause-keyword_sound c = keyword-sound
 
-pub returns-clause-keyword_again : goal.returns-clause-keyword_again
-returns-clause-keyword_again c = keyword-again
+pub returns-clause-keyword_complete : goal.returns-clause-keyword_complete
+returns-clause-keyword_complete c = keyword-complete
 
-pub returns-clause-name_takes : goal.returns-clause-name_takes
-returns-clause-name_takes c = name-takes
+pub returns-clause-name_sound : goal.returns-clause-name_sound
+returns-clause-name_sound c = name-sound
 
-pub returns-clause-name_again : goal.returns-clause-name_again
-returns-clause-name_again c = name-again
+pub returns-clause-name_complete : goal.returns-clause-name_complete
+returns-clause-name_complete c = name-complete

@@ -12,29 +12,31 @@ use Rattle.tb_ast.specs.declared.expression.FieldValue.{FieldValue, roll-FieldVa
 use Rattle.tb_ast.specs.declared.expression.Else.TheOpen.{FieldValue-F}
 use Rattle.tb_ast.specs.Pieces.{punct, ident}
 use Rattle.tb_ast.specs.Depth.{deepest, expr_depth, field_depth}
-use Rattle.tb_syntax.specs.Reading.{◌>>=◌}
 use Rattle.tb_syntax.specs.State.{State, Begins}
 use Rattle.tb_syntax.specs.Marks.{has_mark}
 use Rattle.tb_syntax.specs.Lists.{Listed, list_at, listed_at}
 use Rattle.tb_syntax.proofs.Loops.{list-ends, list-last, list-more}
-use Rattle.tb_syntax.proofs.Marks.{punct-again, comma-shorter}
-use Rattle.tb_syntax.proofs.Tokens.{name-again, token-no-mark}
+use Rattle.tb_syntax.proofs.Marks.{punct-complete, comma-shorter}
+use Rattle.tb_syntax.proofs.Tokens.{name-complete, token-no-mark}
 use Rattle.tb_syntax.proofs.Listed.{begins-has}
+use Rattle.tb_forms.specs.declared.place.Where.{Where}
+use Rattle.tb_forms.specs.declared.place.Where.TheVariants.{Anywhere}
+use Rattle.tb_forms.specs.Levels.{loosest_level}
 use Rattle.tb_forms.specs.Beginnings.{begins_expr}
 use Rattle.tb_expr.specs.Exprs.{whole_at, field_at, expr_at}
 use Rattle.tb_expr.specs.Grammar.{IsWholeAt, AWhole, IsFieldAt, NamedField, ShortField}
 use Rattle.tb_expr.proofs.Begun.{expr-begins}
 use Rattle.tb_expr.proofs.Shrinks.{whole-shrinks, field-shrinks}
-use Rattle.tb_expr.proofs.AgainDepths.{field-bound}
-use Rattle.tb_expr.proofs.AgainReads.{Whole, Closes, Exprs, OneField, Fields}
+use Rattle.tb_expr.proofs.CompleteDepths.{field-bound}
+use Rattle.tb_expr.proofs.CompleteReads.{Whole, Closes, Exprs, OneField, Fields}
 
 pub some-left : (wanted : Punctuation) (state : State) → has_mark wanted state ≡ true → 0 < length state
 unfolding has_mark
 some-left wanted [] e = absurd (true≢false (sym e))
 some-left wanted (piece ∷ state) e = omega arith
 
-pub whole-begins : (bare : Bool) (most : ℕ) (state : State) (e : Expr) (rest : State) → IsWholeAt bare most state e rest → begins_expr state ≡ true
-whole-begins bare most state e rest (AWhole x h level stop) = expr-begins bare state x rest h
+pub whole-begins : (place : Where) (most : ℕ) (state : State) (e : Expr) (rest : State) → IsWholeAt place most state e rest → begins_expr state ≡ true
+whole-begins place most state e rest (AWhole x h level stop) = expr-begins place state x rest h
 
 -- Any list with commas, by its first value.
 
@@ -60,24 +62,24 @@ module _ {A : Type 0} (ends : State → Bool) (one : State → Option (A × Stat
       let m : Mark = record { span = comma; glued = false } in
       let short = comma-shorter comma a b h in
       list-more ends one (has_mark Comma) Comma fuel state x a e read (begins-has Comma m a b h)
-      ∙ rw (punct-again Comma a comma b h, others fuel (omega arith)) refl
+      ∙ rw (punct-complete Comma a comma b h, others fuel (omega arith)) refl
 
 -- Expressions.
 
 pub exprs-none : (close : Punctuation) (rest : State) → has_mark close rest ≡ true → Exprs close rest [] [] rest
 exprs-none close rest e closes depth b = none-listed (has_mark close) (whole_at depth (expr_at depth)) rest e (some-left close rest e)
 
-pub exprs-last : (close : Punctuation) (state : State) (e : Expr) (rest : State) → IsWholeAt true 13 state e rest → has_mark Comma rest ≡ false → Whole true 13 state e rest
+pub exprs-last : (close : Punctuation) (state : State) (e : Expr) (rest : State) → IsWholeAt Anywhere loosest_level state e rest → has_mark Comma rest ≡ false → Whole Anywhere loosest_level state e rest
     → Exprs close state (e ∷ []) [] rest
 exprs-last close state e rest h stop one closes depth b =
     let more : max (expr_depth e) 0 ≤ depth = b in
-    last-listed (has_mark close) (whole_at depth (expr_at depth)) state e rest (closes state (whole-begins true 13 state e rest h)) (one depth (omega arith)) stop (whole-shrinks true 13 state e rest h)
+    last-listed (has_mark close) (whole_at depth (expr_at depth)) state e rest (closes state (whole-begins Anywhere loosest_level state e rest h)) (one depth (omega arith)) stop (whole-shrinks Anywhere loosest_level state e rest h)
 
 pub exprs-more : (close : Punctuation) (state : State) (e : Expr) (comma : Span) (others : List Expr) (commas : List Span) (a b rest : State)
-    → IsWholeAt true 13 state e a → Begins (punct Comma comma) a b → Whole true 13 state e a → Exprs close b others commas rest → Exprs close state (e ∷ others) (comma ∷ commas) rest
+    → IsWholeAt Anywhere loosest_level state e a → Begins (punct Comma comma) a b → Whole Anywhere loosest_level state e a → Exprs close b others commas rest → Exprs close state (e ∷ others) (comma ∷ commas) rest
 exprs-more close state e comma others commas a b rest h between one more closes depth bound =
     let bounds : max (expr_depth e) (deepest (map expr_depth others)) ≤ depth = bound in
-    more-listed (has_mark close) (whole_at depth (expr_at depth)) state e a comma b others commas rest (closes state (whole-begins true 13 state e a h)) (one depth (omega arith)) (whole-shrinks true 13 state e a h) between
+    more-listed (has_mark close) (whole_at depth (expr_at depth)) state e a comma b others commas rest (closes state (whole-begins Anywhere loosest_level state e a h)) (one depth (omega arith)) (whole-shrinks Anywhere loosest_level state e a h) between
     (more closes depth (omega arith))
 
 pub exprs-listed : (close : Punctuation) (state : State) (es : List Expr) (commas : List Span) (rest : State) → Exprs close state es commas rest → Closes close
@@ -87,17 +89,17 @@ exprs-listed close state es commas rest h closes depth b = h closes depth b (len
 
 -- Fields.
 
-pub field-named : (state : State) (name : Ident) (colon : Span) (value : Expr) (a b rest : State) → Begins (ident name) state a → Begins (punct Colon colon) a b → Whole true 13 b value rest
+pub field-named : (state : State) (name : Ident) (colon : Span) (value : Expr) (a b rest : State) → Begins (ident name) state a → Begins (punct Colon colon) a b → Whole Anywhere loosest_level b value rest
     → OneField state (roll-FieldValue (FieldValue-F.Named name colon value)) rest
 unfolding field_at
 field-named state name colon value a b rest first second one depth bound =
     let m : Mark = record { span = colon; glued = false } in
     let less : expr_depth value ≤ depth = field-bound (FieldValue-F.Named name colon value) depth bound in
-    rw (name-again state name a first) (rw (begins-has Colon m a b second) (rw (punct-again Colon a colon b second) (rw (one depth less) refl)))
+    rw (name-complete state name a first) (rw (begins-has Colon m a b second) (rw (punct-complete Colon a colon b second) (rw (one depth less) refl)))
 
 pub field-short : (state : State) (name : Ident) (rest : State) → Begins (ident name) state rest → has_mark Colon rest ≡ false → OneField state (roll-FieldValue (FieldValue-F.Short name)) rest
 unfolding field_at
-field-short state name rest first stop depth bound = rw (name-again state name rest first) (rw stop refl)
+field-short state name rest first stop depth bound = rw (name-complete state name rest first) (rw stop refl)
 
 field-begins : (state : State) (field : FieldValue) (rest : State) → IsFieldAt state field rest → has_mark CloseBrace state ≡ false
 field-begins state field rest (NamedField name colon value a b first second h) = token-no-mark (kind.Name name.name) CloseBrace name.span state a refl first

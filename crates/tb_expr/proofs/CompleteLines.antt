@@ -11,7 +11,7 @@ use Rattle.tb_ast.specs.declared.leaf.Mark.{Mark}
 use Rattle.tb_ast.specs.declared.leaf.Ident.{Ident}
 use Rattle.tb_ast.specs.declared.written.TypeNote.{TypeNote}
 use Rattle.tb_ast.specs.declared.expression.Expr.{Expr}
-use Rattle.tb_ast.specs.declared.expression.Else.{Else, roll-Else}
+use Rattle.tb_ast.specs.declared.expression.Else.{roll-Else}
 use Rattle.tb_ast.specs.declared.expression.Block.{Block}
 use Rattle.tb_ast.specs.declared.expression.Stmt.{Stmt, roll-Stmt}
 use Rattle.tb_ast.specs.declared.expression.Initializer.{Initializer, roll-Initializer}
@@ -19,17 +19,18 @@ use Rattle.tb_ast.specs.declared.expression.Else.TheOpen.{Else-F, Stmt-F}
 use Rattle.tb_ast.specs.Pieces.{punct, mark, keyword, ident, optional_keyword}
 use Rattle.tb_ast.specs.Types.{note_pieces}
 use Rattle.tb_ast.specs.Depth.{deepest, expr_depth, stmt_depth, block_depth, note_depth}
-use Rattle.tb_syntax.specs.Reading.{◌>>=◌}
 use Rattle.tb_syntax.specs.State.{State, Begins, Stands}
 use Rattle.tb_syntax.specs.Marks.{same_mark, first_mark, begins_mark, has_mark}
 use Rattle.tb_syntax.specs.Leaves.{is_keyword, has_keyword}
 use Rattle.tb_syntax.specs.Paths.{from_to}
 use Rattle.tb_syntax.specs.Notes.{IsNote, NoteEnds}
-use Rattle.tb_syntax.proofs.Marks.{same_is, mark-again, punct-again, other-mark}
-use Rattle.tb_syntax.proofs.Tokens.{token-again, token-no-mark, mark-no-token, keyword-again, keyword-has, name-again}
-use Rattle.tb_syntax.proofs.Fronts.{optional-keyword-again}
+use Rattle.tb_syntax.proofs.Marks.{same_is, mark-complete, punct-complete, other-mark}
+use Rattle.tb_syntax.proofs.Tokens.{token-complete, token-no-mark, mark-no-token, keyword-complete, keyword-has, name-complete}
+use Rattle.tb_syntax.proofs.Fronts.{optional-keyword-complete}
 use Rattle.tb_syntax.proofs.Listed.{begins-has}
-use Rattle.tb_syntax.proofs.Noted.{note-again}
+use Rattle.tb_syntax.proofs.Noted.{note-complete}
+use Rattle.tb_forms.specs.declared.place.Where.TheVariants.{Anywhere}
+use Rattle.tb_forms.specs.Levels.{operand_alone, loosest_level}
 use Rattle.tb_forms.specs.Beginnings.{begins_expr, begins_blocky}
 use Rattle.tb_expr.specs.Exprs.{block_in, ended_by, equals_at, let_start_at, start_at, line_wants, line_end_at, value_at, line_in, lines_in, block_in_at, branch_at, else_at}
 use Rattle.tb_expr.specs.Grammar.{ABlocky, IsWholeAt, IsBlockyAt, IsIfAt, IsBlockAt, Braced, IsValueAt, BlockyValue, PlainValue, IsStmtAt, EmptyStmt, LetStmt, PlainStmt, BlockyStmt}
@@ -37,9 +38,9 @@ use Rattle.tb_expr.proofs.Begun.{expr-begins, blocky-begins, if-begins}
 use Rattle.tb_forms.proofs.Begins.{begins-no-brace, begins-no-semicolon, begins-no-let}
 use Rattle.tb_expr.proofs.Shrinks.{stmt-shrinks, value-shrinks}
 use Rattle.tb_expr.proofs.Within.{note-within}
-use Rattle.tb_expr.proofs.AgainDepths.{value_depth, else-bound, stmt-bound, initializer-bound, block-bound}
-use Rattle.tb_expr.proofs.AgainReads.{Whole, Otherwise, Braces, Lined, Statement, LastValue, Initialized}
-use Rattle.tb_expr.proofs.AgainLists.{some-left, whole-begins}
+use Rattle.tb_expr.proofs.CompleteDepths.{value_depth, else-bound, stmt-bound, initializer-bound, block-bound}
+use Rattle.tb_expr.proofs.CompleteReads.{Whole, Otherwise, Braces, Lined, Statement, LastValue, Initialized}
+use Rattle.tb_expr.proofs.CompleteLists.{some-left, whole-begins}
 
 -- a mark that is not glued
 abbrev plain : Span → Mark
@@ -51,7 +52,7 @@ pub initializer-none : (rest : State) → has_mark Eq rest ≡ false → Initial
 unfolding equals_at value_at
 initializer-none rest stop depth b = record { equals = None; after = rest; expression = None; first = rw stop refl; second = refl; is = refl }
 
-pub initializer-some : (state : State) (equals : Mark) (value : Expr) (a rest : State) → Begins (mark Eq equals) state a → Whole true 13 a value rest
+pub initializer-some : (state : State) (equals : Mark) (value : Expr) (a rest : State) → Begins (mark Eq equals) state a → Whole Anywhere loosest_level a value rest
     → Initialized state (Some (roll-Initializer (record { equals = equals; value = value }))) rest
 unfolding equals_at value_at
 initializer-some state equals value a rest h one depth bound =
@@ -60,7 +61,7 @@ initializer-some state equals value a rest h one depth bound =
       equals = Some equals;
       after = a;
       expression = Some value;
-      first = rw (begins-has Eq equals state a h) (rw (mark-again Eq state equals a h) refl);
+      first = rw (begins-has Eq equals state a h) (rw (mark-complete Eq state equals a h) refl);
       second = rw (one depth less) refl;
       is = refl;
     }
@@ -69,11 +70,11 @@ initializer-some state equals value a rest h one depth bound =
 
 pub empty-statement : (state : State) (span : Span) (rest : State) → Begins (punct Semicolon span) state rest → Statement state (roll-Stmt (Stmt-F.Empty span)) rest
 unfolding line_in start_at line_wants value_at line_end_at
-empty-statement state span rest h depth b = rw (begins-has Semicolon (plain span) state rest h) (rw (punct-again Semicolon state span rest h) refl)
+empty-statement state span rest h depth b = rw (begins-has Semicolon (plain span) state rest h) (rw (punct-complete Semicolon state span rest h) refl)
 
 name-no-keyword : (w : Keyword) (state : State) (name : Ident) (rest : State) → Begins (ident name) state rest → has_keyword w state ≡ false
 unfolding has_keyword
-name-no-keyword w state name rest h = rw (token-again (kind.Name name.name) name.span state rest refl h) refl
+name-no-keyword w state name rest h = rw (token-complete (kind.Name name.name) name.span state rest refl h) refl
 
 let-bound : (word : Span) (mutable : Option Span) (name : Ident) (ty : Option TypeNote) (value : Option Initializer) (semicolon : Span) (depth : ℕ)
     → stmt_depth (roll-Stmt (Stmt-F.Let (from_to word semicolon) word mutable name ty value semicolon)) ≤ suc depth → (note_depth ty ≤ depth) × (value_depth value ≤ depth)
@@ -92,22 +93,22 @@ let-statement state word mutable name ty n value semicolon a b c d e rest first 
     let less = let-bound word mutable name ty value semicolon depth bound in
     let made = inside depth less.1 in
     rw (token-no-mark (kind.Keyword keyword_of.Let) Semicolon word state a refl first) (rw (keyword-has keyword_of.Let state word a first)
-    (rw (keyword-again keyword_of.Let state word a first) (rw (optional-keyword-again keyword_of.Mut a mutable b (name-no-keyword keyword_of.Mut b name c third) second)
-    (rw (name-again b name c third) (rw (note-again depth c ty d (note-within n depth ty is less.0) ends fourth) (rw made.first (rw made.second (rw made.is (rw (punct-again Semicolon e semicolon rest last) refl)))))))))
+    (rw (keyword-complete keyword_of.Let state word a first) (rw (optional-keyword-complete keyword_of.Mut a mutable b (name-no-keyword keyword_of.Mut b name c third) second)
+    (rw (name-complete b name c third) (rw (note-complete depth c ty d (note-within n depth ty is less.0) ends fourth) (rw made.first (rw made.second (rw made.is (rw (punct-complete Semicolon e semicolon rest last) refl)))))))))
 
-pub plain-statement : (state : State) (e : Expr) (semicolon : Span) (a rest : State) → begins_blocky state ≡ false → IsWholeAt true 13 state e a → Begins (punct Semicolon semicolon) a rest
-    → Whole true 13 state e a → Statement state (ended_by e semicolon) rest
+pub plain-statement : (state : State) (e : Expr) (semicolon : Span) (a rest : State) → begins_blocky state ≡ false → IsWholeAt Anywhere loosest_level state e a → Begins (punct Semicolon semicolon) a rest
+    → Whole Anywhere loosest_level state e a → Statement state (ended_by e semicolon) rest
 unfolding line_in start_at line_wants value_at line_end_at
 plain-statement state e semicolon a rest other is last one depth bound =
     let less : expr_depth e + 1 ≤ suc depth = stmt-bound _ (suc depth) bound in
-    let begins = whole-begins true 13 state e a is in
+    let begins = whole-begins Anywhere loosest_level state e a is in
     rw (begins-no-semicolon state begins) (rw (begins-no-let state begins) (rw other (rw (one depth (omega arith))
-    (rw (begins-has Semicolon (plain semicolon) a rest last) (rw (punct-again Semicolon a semicolon rest last) refl)))))
+    (rw (begins-has Semicolon (plain semicolon) a rest last) (rw (punct-complete Semicolon a semicolon rest last) refl)))))
 
 blocky-expr : (state : State) (e : Expr) (rest : State) → IsBlockyAt state e rest → begins_expr state ≡ true
-blocky-expr state e rest h = expr-begins true state e rest (ABlocky e h)
+blocky-expr state e rest h = expr-begins Anywhere state e rest (ABlocky e h)
 
-pub blocky-statement : (state : State) (e : Expr) (rest : State) → IsBlockyAt state e rest → has_mark CloseBrace rest ≡ false → Whole true 0 state e rest
+pub blocky-statement : (state : State) (e : Expr) (rest : State) → IsBlockyAt state e rest → has_mark CloseBrace rest ≡ false → Whole Anywhere operand_alone state e rest
     → Statement state (roll-Stmt (Stmt-F.Blocky e)) rest
 unfolding line_in start_at line_wants value_at line_end_at
 blocky-statement state e rest is stop one depth bound =
@@ -117,7 +118,7 @@ blocky-statement state e rest is stop one depth bound =
 
 -- The last expression of a block.
 
-pub blocky-last : (state : State) (e : Expr) (rest : State) → IsBlockyAt state e rest → has_mark CloseBrace rest ≡ true → Whole true 0 state e rest → LastValue state e rest
+pub blocky-last : (state : State) (e : Expr) (rest : State) → IsBlockyAt state e rest → has_mark CloseBrace rest ≡ true → Whole Anywhere operand_alone state e rest → LastValue state e rest
 unfolding line_in start_at line_wants value_at line_end_at
 blocky-last state e rest is stop one depth bound =
     let begins = blocky-expr state e rest is in
@@ -136,24 +137,24 @@ brace-no-semicolon : (state : State) → has_mark CloseBrace state ≡ true → 
 unfolding has_mark
 brace-no-semicolon state e = found-brace (first_mark state) e
 
-pub plain-last : (state : State) (e : Expr) (rest : State) → begins_blocky state ≡ false → IsWholeAt true 13 state e rest → has_mark CloseBrace rest ≡ true → Whole true 13 state e rest
+pub plain-last : (state : State) (e : Expr) (rest : State) → begins_blocky state ≡ false → IsWholeAt Anywhere loosest_level state e rest → has_mark CloseBrace rest ≡ true → Whole Anywhere loosest_level state e rest
     → LastValue state e rest
 unfolding line_in start_at line_wants value_at line_end_at
 plain-last state e rest other is stop one depth bound =
-    let begins = whole-begins true 13 state e rest is in
+    let begins = whole-begins Anywhere loosest_level state e rest is in
     rw (begins-no-semicolon state begins) (rw (begins-no-let state begins) (rw other (rw (one depth bound) (rw (brace-no-semicolon rest stop) (rw stop refl)))))
 
 -- Lines.
 
 value-no-brace : (state : State) (e : Expr) (rest : State) → IsValueAt state e rest → has_mark CloseBrace state ≡ false
 value-no-brace state e rest (BlockyValue x h stop) = begins-no-brace state (blocky-expr state x rest h)
-value-no-brace state e rest (PlainValue x other h stop) = begins-no-brace state (whole-begins true 13 state x rest h)
+value-no-brace state e rest (PlainValue x other h stop) = begins-no-brace state (whole-begins Anywhere loosest_level state x rest h)
 
 stmt-no-brace : (state : State) (s : Stmt) (rest : State) → IsStmtAt state s rest → has_mark CloseBrace state ≡ false
 stmt-no-brace state s rest (EmptyStmt span h) = other-mark Semicolon CloseBrace (plain span) state rest refl h
 stmt-no-brace state s rest (LetStmt word mutable name ty n value semicolon a b c d e first second third fourth is ends inside last) =
     token-no-mark (kind.Keyword keyword_of.Let) CloseBrace word state a refl first
-stmt-no-brace state s rest (PlainStmt e semicolon a other h last) = begins-no-brace state (whole-begins true 13 state e a h)
+stmt-no-brace state s rest (PlainStmt e semicolon a other h last) = begins-no-brace state (whole-begins Anywhere loosest_level state e a h)
 stmt-no-brace state s rest (BlockyStmt e h stop) = begins-no-brace state (blocky-expr state e rest h)
 
 pub lines-none : (rest : State) → has_mark CloseBrace rest ≡ true → Lined rest [] None rest
@@ -182,7 +183,7 @@ pub braces-read : (state : State) (opening : Span) (statements : List Stmt) (las
 unfolding block_in_at
 braces-read state opening statements last closing a b rest first second lines depth bound =
     let less = block-bound opening statements last closing depth bound in
-    rw (punct-again OpenBrace state opening a first) (rw (lines depth (omega arith) less.1 (length a) (omega arith)) (rw (punct-again CloseBrace b closing rest second) refl))
+    rw (punct-complete OpenBrace state opening a first) (rw (lines depth (omega arith) less.1 (length a) (omega arith)) (rw (punct-complete CloseBrace b closing rest second) refl))
 
 -- Behind the block of an `if`.
 
@@ -199,11 +200,11 @@ pub block-otherwise : (state : State) (at : Span) (body : Block) (a rest : State
 unfolding else_at branch_at
 block-otherwise state at body a rest h is inside depth bound =
     let less : block_depth body ≤ depth = else-bound _ depth bound in
-    rw (keyword-has keyword_of.Else state at a h) (rw (keyword-again keyword_of.Else state at a h) (rw (block-no-if a body rest is) (rw (inside depth (omega arith)) refl)))
+    rw (keyword-has keyword_of.Else state at a h) (rw (keyword-complete keyword_of.Else state at a h) (rw (block-no-if a body rest is) (rw (inside depth (omega arith)) refl)))
 
-pub if-otherwise : (state : State) (at : Span) (branch : Expr) (a rest : State) → Begins (keyword keyword_of.Else at) state a → IsIfAt a branch rest → Whole true 0 a branch rest
+pub if-otherwise : (state : State) (at : Span) (branch : Expr) (a rest : State) → Begins (keyword keyword_of.Else at) state a → IsIfAt a branch rest → Whole Anywhere operand_alone a branch rest
     → Otherwise state (Some (roll-Else (Else-F.ElseIf at branch))) rest
 unfolding else_at branch_at
 if-otherwise state at branch a rest h is one depth bound =
     let less : expr_depth branch ≤ depth = else-bound _ depth bound in
-    rw (keyword-has keyword_of.Else state at a h) (rw (keyword-again keyword_of.Else state at a h) (rw (if-begins a branch rest is) (rw (one depth less) refl)))
+    rw (keyword-has keyword_of.Else state at a h) (rw (keyword-complete keyword_of.Else state at a h) (rw (if-begins a branch rest is) (rw (one depth less) refl)))

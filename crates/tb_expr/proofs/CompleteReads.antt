@@ -1,5 +1,5 @@
 -- What is read again, each form with at most the depth of it.
-use Rattle.std.proofs.Common.{◌≡◌, ℕ, suc, ◌+◌, ◌≤◌, Bool, true, false, List, map, length, Option, Some}
+use Rattle.std.proofs.Common.{◌≡◌, ℕ, suc, ◌+◌, ◌≤◌, true, false, List, map, length, Option, Some}
 use Rattle.tb_perm.specs.declared.span.Span.{Span}
 use Rattle.tb_lex.specs.declared.punctuation.Punctuation.{Punctuation}
 use Rattle.tb_lex.specs.declared.punctuation.Punctuation.TheVariants.{Comma, CloseBrace}
@@ -14,27 +14,28 @@ use Rattle.tb_ast.specs.Depth.{deepest, expr_depth, field_depth, stmt_depth, blo
 use Rattle.tb_syntax.specs.State.{State}
 use Rattle.tb_syntax.specs.Marks.{has_mark}
 use Rattle.tb_syntax.specs.Lists.{list_at}
+use Rattle.tb_forms.specs.declared.place.Where.{Where}
 use Rattle.tb_forms.specs.Beginnings.{begins_expr}
 use Rattle.tb_forms.specs.Levels.{level_of}
 use Rattle.tb_expr.specs.declared.lines.Line.TheVariants as line
 use Rattle.tb_expr.specs.Exprs.{whole_at, field_at, equals_at, equals_wants, initializer_of, value_at, line_in, lines_in, block_in_at, else_at, operand_at, longest_at, expr_at}
-use Rattle.tb_expr.proofs.AgainDepths.{last_depth, otherwise_depth, value_depth}
+use Rattle.tb_expr.proofs.CompleteDepths.{last_depth, otherwise_depth, value_depth}
 
 -- an expression, up to a level
-abbrev pub Whole : Bool → ℕ → State → Expr → State → Type 0
-Whole bare most state e rest = (depth : ℕ) → expr_depth e ≤ depth → expr_at depth bare most state ≡ Some (e, rest)
+abbrev pub Whole : Where → ℕ → State → Expr → State → Type 0
+Whole place most state e rest = (depth : ℕ) → expr_depth e ≤ depth → expr_at depth place most state ≡ Some (e, rest)
 
 -- reading from the start comes to stand behind the expression, with enough steps left for what its depth does not take
-abbrev pub Reaches : Bool → State → Expr → State → Type 0
-Reaches bare state e rest = (depth : ℕ) → expr_depth e ≤ suc depth → (most : ℕ) → level_of e ≤ most
-    → (fuel : ℕ) × (suc (suc depth) ≤ fuel + expr_depth e) × (expr_at (suc depth) bare most state ≡ longest_at depth (expr_at depth) bare most fuel e rest)
+abbrev pub Reaches : Where → State → Expr → State → Type 0
+Reaches place state e rest = (depth : ℕ) → expr_depth e ≤ suc depth → (most : ℕ) → level_of e ≤ most
+    → (fuel : ℕ) × (suc (suc depth) ≤ fuel + expr_depth e) × (expr_at (suc depth) place most state ≡ longest_at depth (expr_at depth) place most fuel e rest)
 
 -- an operand, and one that is read alike with struct literals and without
-abbrev pub Operand : Bool → State → Expr → State → Type 0
-Operand bare state e rest = (depth : ℕ) → expr_depth e ≤ suc depth → operand_at depth (expr_at depth) bare state ≡ Some (e, rest)
+abbrev pub Operand : Where → State → Expr → State → Type 0
+Operand place state e rest = (depth : ℕ) → expr_depth e ≤ suc depth → operand_at depth (expr_at depth) place state ≡ Some (e, rest)
 
 abbrev pub Blocky : State → Expr → State → Type 0
-Blocky state e rest = (bare : Bool) → Operand bare state e rest
+Blocky state e rest = (place : Where) → Operand place state e rest
 
 abbrev pub Otherwise : State → Option Else → State → Type 0
 Otherwise state otherwise rest = (depth : ℕ) → otherwise_depth otherwise ≤ depth → else_at depth (expr_at depth) state ≡ Some (otherwise, rest)
