@@ -5,7 +5,7 @@ use Rattle.tb_perm.specs.declared.span.Span.{Span}
 use Rattle.tb_lex.specs.declared.keyword.Keyword.{Keyword}
 use Rattle.tb_lex.specs.declared.keyword.Keyword.TheVariants as keyword_of
 use Rattle.tb_lex.specs.declared.punctuation.Punctuation.{Punctuation}
-use Rattle.tb_lex.specs.declared.punctuation.Punctuation.TheVariants.{OpenBrace, CloseBrace, CloseBracket, Semicolon, Eq}
+use Rattle.tb_lex.specs.declared.punctuation.Punctuation.TheVariants.{OpenBrace, CloseBrace, CloseBracket, Semicolon}
 use Rattle.tb_lex.specs.declared.token.TokenKind.{TokenKind}
 use Rattle.tb_lex.specs.declared.token.TokenKind.TheVariants as kind
 use Rattle.tb_ast.specs.declared.piece.Piece.{Piece}
@@ -24,7 +24,7 @@ use Rattle.tb_ast.specs.Pieces.{punct, keyword, ident, text_piece, optional_keyw
 use Rattle.tb_ast.specs.Types.{note_pieces}
 use Rattle.tb_ast.specs.Expressions.{expr_pieces, stmt_pieces, block_pieces, initializer_pieces}
 use Rattle.tb_ast.specs.Files.{inner_row, word_list, attribute_row, use_row, group_row, struct_row, lifetimes_row, member_row, extern_row, foreign_row}
-use Rattle.tb_syntax.specs.State.{State, IsPart, Begins, Stands}
+use Rattle.tb_syntax.specs.State.{State, Begins, Stands}
 use Rattle.tb_syntax.specs.Items.{head_row}
 use Rattle.tb_syntax.proofs.Chains.{stands-split, stands-one}
 use Rattle.tb_forms.specs.declared.place.Where.TheVariants.{Anywhere, Condition}

@@ -1,17 +1,15 @@
 -- Statements of a body: how far they go, in a body that ends and in one that does not.
-use Rattle.std.proofs.Common.{◌≡◌, ◌⊎◌, ℕ, suc, ◌+◌, ◌-◌, ◌<◌, ◌≤◌, max, Bool, true, false, List, [], ◌∷◌, map, length, Option, Some, None, refl, sym, ap, subst, ◌∙◌, inl, inr, arith}
-use Rattle.std.specs.Option.{option_map}
+use Rattle.std.proofs.Common.{◌≡◌, ◌⊎◌, ◌<◌, ◌≤◌, Bool, true, false, List, [], ◌∷◌, map, length, Option, Some, refl, sym, ap, subst, inl, inr, arith}
 use Rattle.std.proofs.lemmas.List.{length-map}
 use Rattle.tb_lex.specs.declared.token.Token.{Token}
 use Rattle.tb_perm.specs.declared.span.Span.{Span}
 use Rattle.tb_lex.specs.declared.keyword.Keyword.TheVariants as keyword_of
 use Rattle.tb_lex.specs.declared.punctuation.Punctuation.TheVariants.{CloseBrace, Semicolon}
 use Rattle.tb_lex.specs.declared.token.TokenKind.TheVariants as kind
-use Rattle.tb_ast.specs.declared.leaf.Mark.{Mark}
 use Rattle.tb_ast.specs.declared.expression.Expr.{Expr}
 use Rattle.tb_ast.specs.declared.expression.Stmt.{Stmt}
 use Rattle.tb_ast.specs.Pieces.{punct}
-use Rattle.tb_ast.specs.Depth.{deepest, or_none, expr_depth, stmt_depth}
+use Rattle.tb_ast.specs.Depth.{deepest, expr_depth, stmt_depth}
 use Rattle.tb_syntax.specs.State.{State, Begins, piece_of}
 use Rattle.tb_syntax.specs.Marks.{has_mark}
 use Rattle.tb_syntax.proofs.Tokens.{token-no-mark}
@@ -20,14 +18,12 @@ use Rattle.tb_syntax.proofs.Listed.{begins-has}
 use Rattle.tb_forms.specs.declared.place.Where.TheVariants.{Anywhere}
 use Rattle.tb_forms.specs.Levels.{loosest_level}
 use Rattle.tb_forms.proofs.Begins.{begins-no-brace}
-use Rattle.tb_expr.specs.declared.lines.Line.{Line}
 use Rattle.tb_expr.specs.declared.lines.Line.TheVariants as line
-use Rattle.tb_expr.specs.Grammar.{IsExprAt, ABlocky, IsWholeAt, AWhole, IsBlockyAt, AreLinesAt, NoLines, LastLine, MoreLines, IsValueAt, BlockyValue, PlainValue, IsStmtAt, EmptyStmt, LetStmt, PlainStmt, BlockyStmt, IsLineAt}
+use Rattle.tb_expr.specs.Grammar.{ABlocky, IsWholeAt, AWhole, IsBlockyAt, AreLinesAt, NoLines, LastLine, MoreLines, BlockyValue, IsStmtAt, EmptyStmt, LetStmt, PlainStmt, BlockyStmt}
 use Rattle.tb_expr.proofs.Begun.{expr-begins}
 use Rattle.tb_expr.proofs.Shrinks.{blocky-shrinks, lines-shrink, value-shrinks, stmt-shrinks}
 use Rattle.tb_expr.proofs.Ways.{one-line}
 use Rattle.tb_parse.specs.Fronts.{NoneTo, IsLongest, StatementTo, StatementsTo, NoStatement, NextStatement, BeforeBrace, BeforeElse, CutTo, Unfinished}
-use Rattle.tb_parse.proofs.Within.{first-within}
 use Rattle.tb_parse.proofs.Past.{Past, past-here, past-then, past-longest}
 use Rattle.tb_parse.proofs.Cuts.{cut-no-mark, line-over-cut, cut-shrinks}
 

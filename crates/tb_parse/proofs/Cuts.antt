@@ -1,14 +1,13 @@
 -- A cut `if`, and what else stands where it does.
-use Rattle.std.proofs.Common.{◌≡◌, ◌⊎◌, ℕ, suc, ◌+◌, ◌-◌, ◌<◌, ◌≤◌, max, Bool, true, false, List, [], ◌∷◌, map, length, Option, Some, None, refl, sym, ap, subst, ◌∙◌, inl, inr, arith}
+use Rattle.std.proofs.Common.{◌≡◌, ◌⊎◌, ℕ, suc, ◌+◌, ◌-◌, ◌<◌, ◌≤◌, max, Bool, true, false, List, map, length, Option, Some, None, refl, sym, ap, subst, ◌∙◌, inl, inr, arith}
 use Rattle.std.proofs.lemmas.List.{length-map}
 use Rattle.tb_perm.specs.declared.span.Span.{Span}
 use Rattle.tb_lex.specs.declared.keyword.Keyword.{Keyword}
 use Rattle.tb_lex.specs.declared.keyword.Keyword.TheVariants as keyword_of
 use Rattle.tb_lex.specs.declared.punctuation.Punctuation.{Punctuation}
-use Rattle.tb_lex.specs.declared.punctuation.Punctuation.TheVariants.{OpenBrace, CloseBrace, Semicolon}
+use Rattle.tb_lex.specs.declared.punctuation.Punctuation.TheVariants.{OpenBrace, Semicolon}
 use Rattle.tb_lex.specs.declared.token.Token.{Token}
 use Rattle.tb_lex.specs.declared.token.TokenKind.TheVariants as kind
-use Rattle.tb_ast.specs.declared.leaf.Mark.{Mark}
 use Rattle.tb_ast.specs.declared.expression.Expr.{Expr}
 use Rattle.tb_ast.specs.declared.expression.Else.{Else, roll-Else}
 use Rattle.tb_ast.specs.declared.expression.Else.TheOpen.{Else-F}
@@ -18,7 +17,7 @@ use Rattle.tb_ast.specs.Pieces.{punct, keyword}
 use Rattle.tb_ast.specs.Depth.{expr_depth, else_depth, block_depth}
 use Rattle.tb_syntax.specs.State.{State, Begins, piece_of}
 use Rattle.tb_syntax.specs.Marks.{has_mark}
-use Rattle.tb_syntax.specs.Leaves.{has_keyword, keyword_at}
+use Rattle.tb_syntax.specs.Leaves.{has_keyword}
 use Rattle.tb_syntax.proofs.Options.{some_is}
 use Rattle.tb_syntax.proofs.Chains.{begins-shrinks}
 use Rattle.tb_syntax.proofs.Tokens.{token-no-mark, keyword-complete, keyword_self}

@@ -1,9 +1,8 @@
 -- What the parts of the search for the longest front find, by what is read.
-use Rattle.std.proofs.Common.{◌≡◌, ◌⊎◌, cond, ℕ, zero, suc, ◌+◌, ◌-◌, ◌<◌, ◌≤◌, Bool, true, false, if◌then◌else◌, List, [], ◌∷◌, ◌++◌, map, length, take, drop, Option, Some, None, Result, Ok, Err, refl, sym, ap, subst, ◌∙◌, inl, inr, arith}
+use Rattle.std.proofs.Common.{◌≡◌, cond, ℕ, suc, ◌-◌, ◌<◌, ◌≤◌, Bool, true, false, if◌then◌else◌, List, [], ◌∷◌, map, length, take, drop, Option, Some, None, Result, Ok, Err, refl, sym, ap, subst, ◌∙◌, arith}
 use Rattle.std.specs.Prelude.{IfSome, IfNone, IfOk}
 use Rattle.std.proofs.lemmas.List.{length-map, drop-map, take_rest}
 use Rattle.tb_perm.specs.declared.span.Span.{Span}
-use Rattle.tb_lex.specs.declared.keyword.Keyword.{Keyword}
 use Rattle.tb_lex.specs.declared.keyword.Keyword.TheVariants as keyword_of
 use Rattle.tb_lex.specs.declared.token.Token.{Token}
 use Rattle.tb_ast.specs.declared.expression.Expr.{Expr}
@@ -11,11 +10,10 @@ use Rattle.tb_ast.specs.declared.expression.Block.{Block}
 use Rattle.tb_ast.specs.declared.expression.Stmt.{Stmt}
 use Rattle.tb_ast.specs.declared.item.InnerAttribute.{InnerAttribute}
 use Rattle.tb_ast.specs.declared.item.Item.{Item}
-use Rattle.tb_ast.specs.Pieces.{keyword}
 use Rattle.tb_ast.specs.Files.{inner_row}
 use Rattle.tb_ast.specs.Depth.{capped, expr_depth, block_depth, stmt_depth, item_depth}
 use Rattle.tb_syntax.specs.Reading.{◌>>=◌}
-use Rattle.tb_syntax.specs.State.{State, Begins, Stands, piece_of}
+use Rattle.tb_syntax.specs.State.{State, Stands, piece_of}
 use Rattle.tb_syntax.specs.Leaves.{passes, token_at, is_keyword, keyword_at, has_keyword}
 use Rattle.tb_syntax.specs.Attributes.{inner_at, IsInner}
 use Rattle.tb_syntax.proofs.Options.{some_is}
@@ -25,7 +23,7 @@ use Rattle.tb_forms.specs.declared.place.Where.TheVariants.{Condition}
 use Rattle.tb_forms.specs.Levels.{loosest_level}
 use Rattle.tb_expr.specs.declared.lines.Line.{Line}
 use Rattle.tb_expr.specs.declared.lines.Line.TheVariants as line
-use Rattle.tb_expr.specs.Grammar.{IsWholeAt, IsBlockAt, IsStmtAt, IsValueAt, IsLineAt, line_depth}
+use Rattle.tb_expr.specs.Grammar.{IsWholeAt, IsBlockAt, IsLineAt, line_depth}
 use Rattle.tb_expr.proofs.Ways.{one-whole, one-block, one-line}
 use Rattle.tb_parse.specs.Files.{item_at}
 use Rattle.tb_parse.specs.Trees.{IsItemAt}

@@ -1,5 +1,5 @@
 -- What an item begins with.
-use Rattle.std.proofs.Common.{◌≡◌, ℕ, ◌<◌, ◌≤◌, Bool, true, false, ◌||◌, List, [], ◌∷◌, ◌++◌, length, Option, Some, None, refl, sym, ap, subst, ◌∙◌, arith}
+use Rattle.std.proofs.Common.{◌≡◌, ◌<◌, Bool, true, false, ◌||◌, List, ◌∷◌, ◌++◌, length, Option, Some, None, refl, ap, ◌∙◌, arith}
 use Rattle.tb_perm.specs.declared.span.Span.{Span}
 use Rattle.tb_lex.specs.declared.keyword.Keyword.{Keyword}
 use Rattle.tb_lex.specs.declared.keyword.Keyword.TheVariants as keyword_of

@@ -1,5 +1,5 @@
 -- A head that is written with types of at most some depth is no deeper.
-use Rattle.std.proofs.Common.{◌≡◌, ℕ, zero, suc, ◌+◌, ◌≤◌, max, List, [], ◌∷◌, map, Option, Some, None, sym, subst, arith}
+use Rattle.std.proofs.Common.{◌≡◌, ℕ, zero, suc, ◌≤◌, List, [], ◌∷◌, map, Option, Some, None, sym, subst, arith}
 use Rattle.std.specs.List.{AllByRecursion}
 use Rattle.tb_ast.specs.declared.written.TypeExpr.{TypeExpr, out-TypeExpr}
 use Rattle.tb_ast.specs.declared.written.TypeArgument.{TypeArgument, out-TypeArgument}
@@ -7,7 +7,6 @@ use Rattle.tb_ast.specs.declared.written.TypeArguments.{TypeArguments, out-TypeA
 use Rattle.tb_ast.specs.declared.written.TypeArgument.TheOpen.{TypeExpr-F, TypeArgument-F}
 use Rattle.tb_ast.specs.declared.written.TypeArgument.TheOpen.TypeExpr-F.{Unit as Nothing, Tuple, Slice, Array, Reference, Pointer, Path as PathType}
 use Rattle.tb_ast.specs.declared.written.TypeArgument.TheFolds.{fold_out-TypeExpr, fold_out-TypeArgument, fold_out-TypeArguments, map-TypeExpr, map-TypeArgument}
-use Rattle.tb_ast.specs.declared.item.Parameter.{Parameter}
 use Rattle.tb_ast.specs.declared.item.ResultType.{ResultType}
 use Rattle.tb_ast.specs.Depth.{deepest, type_step, argument_step, arguments_step, type_depth, argument_depth, arguments_depth, parameter_depth, result_depth}
 use Rattle.tb_syntax.specs.declared.heads.FunctionHead.{FunctionHead}

@@ -1,9 +1,8 @@
 -- Items and attributes of the file: how far they go, and a function that does not end.
-use Rattle.std.proofs.Common.{◌≡◌, ◌⊎◌, ℕ, suc, ◌+◌, ◌<◌, ◌≤◌, max, Bool, true, false, List, [], ◌∷◌, ◌++◌, map, length, drop, Option, Some, None, refl, sym, ap, subst, ◌∙◌, inl, inr, arith}
+use Rattle.std.proofs.Common.{◌≡◌, ◌⊎◌, ℕ, ◌+◌, ◌≤◌, max, Bool, true, false, List, [], ◌∷◌, map, length, Option, Some, None, refl, sym, ap, subst, ◌∙◌, inl, inr, arith}
 use Rattle.std.specs.Option.{option_map}
 use Rattle.std.proofs.lemmas.List.{length-map}
 use Rattle.tb_lex.specs.declared.token.Token.{Token}
-use Rattle.std.specs.List.{AllByRecursion}
 use Rattle.tb_perm.specs.declared.span.Span.{Span}
 use Rattle.tb_lex.specs.declared.keyword.Keyword.TheVariants as keyword_of
 use Rattle.tb_lex.specs.declared.punctuation.Punctuation.TheVariants.{Pound, Not, OpenBrace, OpenBracket, CloseBrace}
@@ -20,12 +19,11 @@ use Rattle.tb_ast.specs.Pieces.{punct, in_order}
 use Rattle.tb_ast.specs.Files.{inner_row, attribute_row}
 use Rattle.tb_ast.specs.Depth.{deepest, or_none, expr_depth, stmt_depth, block_depth, item_depth, parameter_depth, result_depth}
 use Rattle.tb_syntax.specs.declared.heads.FunctionHead.{FunctionHead}
-use Rattle.tb_syntax.specs.Reading.{◌>>=◌}
 use Rattle.tb_syntax.specs.State.{State, Begins, Stands, piece_of}
 use Rattle.tb_syntax.specs.Marks.{has_mark, mark_at, punct_at}
 use Rattle.tb_syntax.specs.Leaves.{has_keyword}
 use Rattle.tb_syntax.specs.Notes.{ResultEnds}
-use Rattle.tb_syntax.specs.Attributes.{has_inner, begins_bang, attributes_at, IsInner, IsAttribute}
+use Rattle.tb_syntax.specs.Attributes.{has_inner, begins_bang, attributes_at, IsInner}
 use Rattle.tb_syntax.specs.Items.{head_at, head_row, IsHead}
 use Rattle.tb_syntax.proofs.Options.{bind_some, some_is}
 use Rattle.tb_syntax.proofs.Chains.{stands-split, stands-shrinks, begins-shrinks}

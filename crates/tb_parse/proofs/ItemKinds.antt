@@ -1,6 +1,5 @@
 -- Items without their attributes: what is read stands there, and what stands there is read.
-use Rattle.std.proofs.Common.{◌≡◌, ℕ, suc, ◌<◌, ◌≤◌, max, Bool, true, false, cond, if◌then◌else◌, List, [], ◌∷◌, ◌++◌, map, length, Option, Some, None, refl, sym, ap, subst, ◌∙◌, inl, inr, arith}
-use Rattle.tb_perm.specs.declared.span.Span.{Span}
+use Rattle.std.proofs.Common.{◌≡◌, ℕ, suc, ◌<◌, ◌≤◌, max, true, false, List, [], ◌∷◌, ◌++◌, map, length, Some, None, refl, subst, inl, inr, arith}
 use Rattle.tb_lex.specs.declared.keyword.Keyword.TheVariants as keyword_of
 use Rattle.tb_lex.specs.declared.punctuation.Punctuation.TheVariants.{OpenParen, CloseParen, OpenBrace, CloseBrace, Comma, Semicolon, Pound}
 use Rattle.tb_ast.specs.declared.piece.Piece.{Piece}
@@ -12,21 +11,18 @@ use Rattle.tb_ast.specs.declared.item.ItemKind.{ItemKind}
 use Rattle.tb_ast.specs.declared.item.ItemKind.TheVariants as item
 use Rattle.tb_ast.specs.declared.expression.Block.{Block}
 use Rattle.tb_ast.specs.Pieces.{punct, ident, text_piece, separated, in_order, path_pieces}
-use Rattle.tb_ast.specs.Files.{use_row, group_row, struct_row, lifetimes_row, member_row, generics_row, parameter_row, optional_result, extern_row, foreign_row}
+use Rattle.tb_ast.specs.Files.{group_row, lifetimes_row, member_row, generics_row, parameter_row, optional_result, foreign_row}
 use Rattle.tb_ast.specs.Depth.{deepest, kind_depth, block_depth, parameter_depth, result_depth}
 use Rattle.tb_ast.specs.Expressions.{block_pieces}
 use Rattle.tb_syntax.specs.declared.heads.FunctionHead.{FunctionHead}
-use Rattle.tb_syntax.specs.Reading.{◌>>=◌}
-use Rattle.tb_syntax.specs.State.{State, Begins, Stands}
+use Rattle.tb_syntax.specs.State.{State}
 use Rattle.tb_syntax.specs.Marks.{has_mark}
 use Rattle.tb_syntax.specs.Leaves.{has_keyword}
-use Rattle.tb_syntax.specs.Notes.{ResultEnds}
-use Rattle.tb_syntax.specs.Items.{use_at, struct_at, head_at, extern_at, IsUse, IsStruct, IsExtern, head_row, IsHead}
+use Rattle.tb_syntax.specs.Items.{use_at, struct_at, head_at, extern_at}
 use Rattle.tb_syntax.proofs.Options.{bind_some, chosen, some_is}
 use Rattle.tb_syntax.proofs.Chains.{stands-shrinks}
 use Rattle.tb_syntax.proofs.Itemized.{use-sound, use-complete, struct-sound, struct-complete}
 use Rattle.tb_syntax.proofs.Headed.{head-sound, head-complete, extern-sound, extern-complete}
-use Rattle.tb_expr.specs.Grammar.{IsBlockAt}
 use Rattle.tb_expr.specs.Exprs.{block_at}
 use Rattle.tb_parse.specs.Files.{function_of, function_at, begins_extern, kind_at}
 use Rattle.tb_parse.specs.Trees.{IsKindAt, AUse, AStruct, AnExtern, AFunction}

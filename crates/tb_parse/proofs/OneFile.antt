@@ -1,5 +1,5 @@
 -- Attributes of the file and items, one behind another: no place has two runs of them, and a tree goes on where a run ends.
-use Rattle.std.proofs.Common.{◌≡◌, ℕ, ◌<◌, ◌≤◌, max, Bool, true, false, List, [], ◌∷◌, ◌++◌, map, length, Option, Some, None, refl, sym, ap, subst, ◌∙◌, inl, inr, arith}
+use Rattle.std.proofs.Common.{◌≡◌, ◌<◌, ◌≤◌, Bool, true, false, List, [], ◌∷◌, ◌++◌, map, length, Some, refl, sym, ap, subst, ◌∙◌, arith}
 use Rattle.std.specs.List.{AllByRecursion}
 use Rattle.std.specs.Prelude.{codes}
 use Rattle.tb_lex.specs.declared.punctuation.Punctuation.TheVariants.{Pound, Not, OpenBracket, CloseBracket}
@@ -10,9 +10,9 @@ use Rattle.tb_ast.specs.declared.leaf.Mark.{Mark}
 use Rattle.tb_ast.specs.Pieces.{punct, in_order}
 use Rattle.tb_ast.specs.Files.{word_list, inner_row}
 use Rattle.tb_ast.specs.Depth.{deepest, item_depth}
-use Rattle.tb_syntax.specs.State.{State, Begins, Stands, piece_of}
-use Rattle.tb_syntax.specs.Marks.{has_mark, mark_at}
-use Rattle.tb_syntax.specs.Attributes.{has_inner, begins_bang, inner_at, inners_at, IsInner}
+use Rattle.tb_syntax.specs.State.{State, Stands, piece_of}
+use Rattle.tb_syntax.specs.Marks.{mark_at}
+use Rattle.tb_syntax.specs.Attributes.{has_inner, begins_bang, IsInner}
 use Rattle.tb_syntax.proofs.Options.{some_is}
 use Rattle.tb_syntax.proofs.Chains.{stands-then, stands-split, stands-shrinks}
 use Rattle.tb_syntax.proofs.Marks.{mark-complete, pound-shorter}

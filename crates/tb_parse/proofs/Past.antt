@@ -1,5 +1,5 @@
 -- Each front ends no further than some place, or goes on behind it.
-use Rattle.std.proofs.Common.{◌≡◌, ◌⊎◌, ℕ, ◌<◌, ◌≤◌, List, length, refl, sym, ap, subst, inl, inr, arith}
+use Rattle.std.proofs.Common.{◌⊎◌, ℕ, ◌≤◌, length, inl, inr, arith}
 use Rattle.tb_syntax.specs.State.{State}
 use Rattle.tb_parse.specs.Fronts.{IsLongest}
 

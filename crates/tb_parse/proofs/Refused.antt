@@ -1,7 +1,6 @@
 -- The refused token: where the longest front ends.
-use Rattle.std.proofs.Common.{◌≡◌, ℕ, suc, ◌+◌, ◌-◌, ◌<◌, ◌≤◌, Bool, true, false, List, [], ◌∷◌, map, length, drop, Option, Some, None, refl, sym, ap, subst, ◌∙◌, inl, inr, arith, drop-drop}
+use Rattle.std.proofs.Common.{◌≡◌, ℕ, ◌-◌, ◌≤◌, List, [], ◌∷◌, map, length, drop, refl, sym, ap, subst, ◌∙◌, arith}
 use Rattle.std.proofs.lemmas.List.{length-map, length-drop, drop-map}
-use Rattle.tb_perm.specs.declared.span.Span.{Span}
 use Rattle.tb_lex.specs.declared.token.Token.{Token}
 use Rattle.tb_lex.specs.declared.token.Tokens.{Tokens}
 use Rattle.tb_ast.specs.declared.item.InnerAttribute.{InnerAttribute}
@@ -10,11 +9,10 @@ use Rattle.tb_ast.specs.declared.item.Tree.{Tree}
 use Rattle.tb_ast.specs.Depth.{deepest, item_depth, depth_of}
 use Rattle.tb_ast.specs.Joined.{token_of, tokens_of}
 use Rattle.tb_syntax.specs.State.{State, piece_of}
-use Rattle.tb_parse.specs.declared.error.ParseError.{ParseError}
 use Rattle.tb_parse.specs.declared.error.ParseError.TheVariants as errors
 use Rattle.tb_parse.specs.Trees.{AreItems, IsRun, IsInnerRun, IsTreeOf}
-use Rattle.tb_parse.specs.Fronts.{IsSuffix, NoneTo, IsLongest, InnerTo, ItemTo, StatementsTo, NoStatement, NextStatement, BeforeBrace, BeforeElse, ItemsTo, NoItem, NextItem, InBody, FrontTo, Items, NextInner, IsFront, IsRefusedAt, code_of, place_of, refusal_at, RefusesAs}
-use Rattle.tb_parse.proofs.Aligned.{Tail, stmt-suffix, blocky-suffix, cut-suffix, item-suffix, inner-suffix, opened-suffix, suffix-length, suffix-tail}
+use Rattle.tb_parse.specs.Fronts.{IsSuffix, NoneTo, IsLongest, InnerTo, ItemTo, StatementsTo, NoStatement, NextStatement, BeforeBrace, BeforeElse, ItemsTo, NoItem, NextItem, InBody, FrontTo, Items, NextInner, IsRefusedAt, code_of, place_of, RefusesAs}
+use Rattle.tb_parse.proofs.Aligned.{stmt-suffix, blocky-suffix, cut-suffix, item-suffix, inner-suffix, opened-suffix, suffix-length, suffix-tail}
 use Rattle.tb_parse.proofs.Spelled.{back, tree-spelled}
 use Rattle.tb_parse.proofs.One.{one-tree}
 use Rattle.tb_parse.proofs.OneFile.{inner-run-stands, inner-run-left, run-whole, run-refused}

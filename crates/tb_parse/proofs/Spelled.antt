@@ -1,12 +1,11 @@
 -- The tokens of a tree that the grammar relates to tokens are these.
-use Rattle.std.proofs.Common.{◌≡◌, ℕ, ◌≤◌, List, [], ◌∷◌, ◌++◌, map, Option, Some, None, refl, sym, ap, subst, ◌∙◌}
+use Rattle.std.proofs.Common.{◌≡◌, ℕ, List, [], ◌∷◌, ◌++◌, map, refl, sym, ap, ◌∙◌}
 use Rattle.std.specs.List.{AllByRecursion}
 use Rattle.tb_lex.specs.declared.token.Token.{Token}
 use Rattle.tb_lex.specs.declared.token.Tokens.{Tokens}
 use Rattle.tb_lex.specs.declared.keyword.Keyword.TheVariants as keyword_of
 use Rattle.tb_lex.specs.declared.punctuation.Punctuation.TheVariants.{OpenParen, CloseParen, Comma}
 use Rattle.tb_ast.specs.declared.piece.Piece.{Piece}
-use Rattle.tb_ast.specs.declared.item.InnerAttribute.{InnerAttribute}
 use Rattle.tb_ast.specs.declared.item.Item.{Item}
 use Rattle.tb_ast.specs.declared.item.ItemKind.{ItemKind}
 use Rattle.tb_ast.specs.declared.item.Tree.{Tree}
@@ -14,7 +13,7 @@ use Rattle.tb_ast.specs.declared.expression.Block.{Block}
 use Rattle.tb_ast.specs.Pieces.{punct, keyword, ident, optional_keyword, separated, in_order}
 use Rattle.tb_ast.specs.Expressions.{block_pieces}
 use Rattle.tb_ast.specs.Files.{inner_row, attribute_row, generics_row, parameter_row, optional_result, function_row, kind_row, item_row, tree_pieces}
-use Rattle.tb_ast.specs.Joined.{joined_before, joined, token_of, tokens_of, IsApart}
+use Rattle.tb_ast.specs.Joined.{joined, token_of, tokens_of, IsApart}
 use Rattle.tb_syntax.specs.declared.heads.FunctionHead.{FunctionHead}
 use Rattle.tb_syntax.specs.State.{State, IsState, piece_of, Stands}
 use Rattle.tb_syntax.specs.Items.{head_row}

@@ -1,13 +1,12 @@
 -- Items: what is read stands there, and what stands there is read.
-use Rattle.std.proofs.Common.{◌≡◌, ℕ, suc, ◌<◌, ◌≤◌, max, List, map, length, Option, Some, None, refl, sym, ap, subst, ◌∙◌, arith}
+use Rattle.std.proofs.Common.{◌≡◌, ℕ, suc, ◌<◌, ◌≤◌, max, List, map, length, Option, Some, refl, sym, ap, subst, ◌∙◌, arith}
 use Rattle.tb_ast.specs.declared.item.Attribute.{Attribute}
 use Rattle.tb_ast.specs.declared.item.Item.{Item}
 use Rattle.tb_ast.specs.declared.item.ItemKind.{ItemKind}
 use Rattle.tb_ast.specs.Pieces.{in_order}
 use Rattle.tb_ast.specs.Files.{attribute_row}
 use Rattle.tb_ast.specs.Depth.{item_depth}
-use Rattle.tb_syntax.specs.Reading.{◌>>=◌}
-use Rattle.tb_syntax.specs.State.{State, Stands}
+use Rattle.tb_syntax.specs.State.{State}
 use Rattle.tb_syntax.specs.Attributes.{attributes_at}
 use Rattle.tb_syntax.proofs.Options.{bind_some, some_is}
 use Rattle.tb_syntax.proofs.Chains.{stands-shrinks}

@@ -1,12 +1,9 @@
 -- Items are written with their own depth, and with every greater one.
-use Rattle.std.proofs.Common.{◌≡◌, ℕ, suc, ◌≤◌, max, List, [], ◌∷◌, map, Option, Some, None, refl, sym, ap, subst, arith}
+use Rattle.std.proofs.Common.{ℕ, ◌≤◌, max, List, [], ◌∷◌, map, Option, Some, None, arith}
 use Rattle.std.specs.List.{AllByRecursion}
 use Rattle.tb_ast.specs.declared.item.Struct.{Struct}
-use Rattle.tb_ast.specs.declared.item.Field.{Field}
-use Rattle.tb_ast.specs.declared.item.Parameter.{Parameter}
 use Rattle.tb_ast.specs.declared.item.ResultType.{ResultType}
 use Rattle.tb_ast.specs.declared.item.ExternBlock.{ExternBlock}
-use Rattle.tb_ast.specs.declared.item.ForeignFunction.{ForeignFunction}
 use Rattle.tb_ast.specs.Depth.{deepest, member_depth, parameter_depth, result_depth, foreign_depth}
 use Rattle.tb_syntax.specs.declared.heads.FunctionHead.{FunctionHead}
 use Rattle.tb_syntax.specs.Notes.{IsResult}

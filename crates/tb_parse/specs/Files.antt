@@ -1,8 +1,7 @@
 -- Reading items and files.
-use Rattle.std.specs.Prelude.{◌≡◌, ℕ, suc, Bool, true, false, ◌||◌, if◌then◌else◌, List, [], ◌∷◌, Option, None, Some}
+use Rattle.std.specs.Prelude.{ℕ, suc, Bool, false, ◌||◌, if◌then◌else◌, List, [], ◌∷◌, Option, None, Some}
 use Rattle.tb_perm.specs.declared.span.Span.{Span}
 use Rattle.tb_lex.specs.declared.keyword.Keyword.TheVariants as keyword_of
-use Rattle.tb_ast.specs.declared.item.InnerAttribute.{InnerAttribute}
 use Rattle.tb_ast.specs.declared.item.Attribute.{Attribute}
 use Rattle.tb_ast.specs.declared.item.Item.{Item}
 use Rattle.tb_ast.specs.declared.item.ItemKind.{ItemKind}
@@ -15,8 +14,7 @@ use Rattle.tb_syntax.specs.Reading.{◌>>=◌}
 use Rattle.tb_syntax.specs.State.{State}
 use Rattle.tb_syntax.specs.Leaves.{has_keyword, keyword_at}
 use Rattle.tb_syntax.specs.Paths.{from_to}
-use Rattle.tb_syntax.specs.Repeats.{repeated_at}
-use Rattle.tb_syntax.specs.Attributes.{inners_at, attributes_at}
+use Rattle.tb_syntax.specs.Attributes.{attributes_at}
 use Rattle.tb_syntax.specs.Items.{use_at, struct_at, head_at, extern_at}
 use Rattle.tb_expr.specs.Exprs.{block_at}
 

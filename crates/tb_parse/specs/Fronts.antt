@@ -1,5 +1,5 @@
 -- How far whole items and statements go where there is no tree, and the token that is refused then.
-use Rattle.std.specs.Prelude.{◌≡◌, ◌≤◌, ◌+◌, ℕ, Bool, true, false, ◌||◌, nat_lt, if◌then◌else◌, List, [], ◌∷◌, map, length, drop, Option, None, Some, Result, Ok, Err}
+use Rattle.std.specs.Prelude.{◌≡◌, ◌≤◌, ◌+◌, ℕ, Bool, true, false, ◌||◌, nat_lt, if◌then◌else◌, List, [], ◌∷◌, map, length, drop, Option, None, Some}
 use Rattle.std.specs.List.{AllByRecursion}
 use Rattle.std.specs.Option.{option_map}
 use Rattle.tb_perm.specs.declared.span.Span.{Span}
@@ -12,7 +12,7 @@ use Rattle.tb_lex.specs.declared.token.TokenKind.{TokenKind}
 use Rattle.tb_lex.specs.declared.token.TokenKind.TheVariants as kind
 use Rattle.tb_lex.specs.declared.token.Tokens.{Tokens}
 use Rattle.tb_ast.specs.declared.expression.Expr.{Expr}
-use Rattle.tb_ast.specs.declared.expression.Else.{Else, roll-Else}
+use Rattle.tb_ast.specs.declared.expression.Else.{roll-Else}
 use Rattle.tb_ast.specs.declared.expression.Else.TheOpen.{Else-F}
 use Rattle.tb_ast.specs.declared.expression.Block.{Block}
 use Rattle.tb_ast.specs.declared.expression.Stmt.{Stmt}

@@ -1,5 +1,5 @@
 -- Which tokens a tree stands for: the items and the whole file.
-use Rattle.std.specs.Prelude.{◌≡◌, ◌≤◌, ℕ, Bool, true, false, List, [], ◌∷◌, ◌++◌, map, Option, None, Some, Result, Ok, Err}
+use Rattle.std.specs.Prelude.{◌≡◌, ℕ, false, List, [], ◌∷◌, map, Result, Err}
 use Rattle.std.specs.List.{AllByRecursion}
 use Rattle.tb_lex.specs.declared.token.Tokens.{Tokens}
 use Rattle.tb_ast.specs.declared.item.InnerAttribute.{InnerAttribute}
@@ -16,7 +16,6 @@ use Rattle.tb_ast.specs.Pieces.{in_order}
 use Rattle.tb_ast.specs.Files.{inner_row, attribute_row, use_row, struct_row, extern_row}
 use Rattle.tb_syntax.specs.declared.heads.FunctionHead.{FunctionHead}
 use Rattle.tb_syntax.specs.State.{State, Stands, piece_of}
-use Rattle.tb_syntax.specs.Marks.{has_mark}
 use Rattle.tb_syntax.specs.Attributes.{has_inner, IsInner, IsAttribute}
 use Rattle.tb_syntax.specs.Notes.{ResultEnds}
 use Rattle.tb_syntax.specs.Items.{IsUse, IsStruct, IsExtern, head_row, IsHead}

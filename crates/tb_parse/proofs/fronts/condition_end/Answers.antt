@@ -1,4 +1,4 @@
-use Rattle.std.proofs.Common.{rules, ◌<◌, false}
+use Rattle.std.proofs.Common.{rules, ◌<◌}
 use Rattle.tb_ast.specs.Depth.{capped, expr_depth}
 use Rattle.tb_forms.specs.declared.place.Where.TheVariants.{Condition}
 use Rattle.tb_forms.specs.Levels.{loosest_level}

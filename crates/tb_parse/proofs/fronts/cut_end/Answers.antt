@@ -1,4 +1,4 @@
-use Rattle.std.proofs.Common.{rules, arith, ◌≡◌, ◌<◌, ◌≤◌, ◌-◌, map}
+use Rattle.std.proofs.Common.{rules, arith, ◌<◌, ◌≤◌, ◌-◌, map}
 use Rattle.tb_syntax.specs.State.{piece_of}
 use Rattle.tb_parse.specs.Fronts.{NoneTo, BranchTo}
 use Rattle.tb_parse.proofs.Cuts.{loop-more, loop-branch, loop-else, loop-deep}

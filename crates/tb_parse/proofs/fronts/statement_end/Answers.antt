@@ -2,8 +2,7 @@ use Rattle.std.proofs.Common.{rules, ◌<◌, map}
 use Rattle.tb_ast.specs.Depth.{capped, stmt_depth}
 use Rattle.tb_syntax.specs.State.{State, piece_of}
 use Rattle.tb_expr.specs.declared.lines.Line.{Line}
-use Rattle.tb_expr.specs.declared.lines.Line.TheVariants as line
-use Rattle.tb_expr.specs.Grammar.{IsLineAt, IsStmtAt, IsValueAt, line_depth}
+use Rattle.tb_expr.specs.Grammar.{IsLineAt, IsStmtAt, line_depth}
 use Rattle.tb_parse.proofs.Ends.{statement-deep, statement-last-line, statement-refused}
 use Rattle.tb_parse.proofs.fronts.statement_end.Goals as goal
 
