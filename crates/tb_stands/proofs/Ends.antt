@@ -192,3 +192,33 @@ ends_alike reached ps owns eagers stand numbered known = at (release_all ps owns
     at (Refuses i r os) (Refuses j s es) alike = alike
     at (Ends os) (Refuses j s es) alike = absurd alike
     at (Refuses i r os) (Ends es) alike = absurd alike
+
+-- an own live allocation, and the eager one
+module _ (reached : List Prov) (k : ℕ) (owns eagers : List AllocRows) (stand : StandAll reached owns eagers) (numbered : AreNumbered owns) (own : AllocRows) (found : find (is_live k) owns ≡ Some own) where
+  abbrev Pair : (List Row → List Row) → (List Row → List Row) → Type 0
+  Pair f g = (eager : AllocRows) × (find (is_live k) eagers ≡ Some eager) × StandsAt reached own eager × (own.live ≡ true) × (Stands own.size (f own.rows) (g eager.rows) (reached_in reached own.id) → StandAll reached (with_rows k f owns) (with_rows k g eagers))
+
+  pub pair : (f g : List Row → List Row) → Pair f g
+  pair f g = at (find (is_live k) owns) found (find (is_live k) eagers) refl (find_alike reached k f g owns eagers stand numbered)
+    where
+      at : (x : Option AllocRows) → x ≡ Some own → (y : Option AllocRows) → find (is_live k) eagers ≡ y → FoundAlike reached k f g owns eagers x y → Pair f g
+      at None same y is alike = cc
+      at (Some o) same None is alike = absurd alike
+      at (Some o) same (Some e) is alike =
+          let one : o ≡ own = cc in
+          subst (λ (a : AllocRows). (eager : AllocRows) × (find (is_live k) eagers ≡ Some eager) × StandsAt reached a eager × (a.live ≡ true) × (Stands a.size (f a.rows) (g eager.rows) (reached_in reached a.id) → StandAll reached (with_rows k f owns) (with_rows k g eagers))) one
+          (e, is, alike.0, alike.1, alike.2)
+
+pub alloc_found : (reached : List Prov) (k : ℕ) (owns eagers : List AllocRows) → StandAll reached owns eagers → AreNumbered owns → (own : AllocRows) → find (is_live k) owns ≡ Some own → (eager : AllocRows) × (find (is_live k) eagers ≡ Some eager) × (own.size ≡ eager.size) × Stands own.size own.rows eager.rows (reached_in reached own.id)
+alloc_found reached k owns eagers stand numbered own found =
+    let both = pair reached k owns eagers stand numbered own found (λ rows. rows) (λ rows. rows) in
+    (both.0, both.1, both.2.1, both.2.3 both.3)
+
+pub alloc_changed : (reached : List Prov) (k : ℕ) (f g : List Row → List Row) (owns eagers : List AllocRows) → StandAll reached owns eagers → AreNumbered owns → (own eager : AllocRows) → find (is_live k) owns ≡ Some own → find (is_live k) eagers ≡ Some eager → Stands own.size (f own.rows) (g eager.rows) (reached_in reached own.id) → StandAll reached (with_rows k f owns) (with_rows k g eagers) × AreNumbered (with_rows k f owns)
+alloc_changed reached k f g owns eagers stand numbered own eager found is stands =
+    let both = pair reached k owns eagers stand numbered own found f g in
+    let one : both.0 ≡ eager = same both.0 eager (sym both.1 ∙ is) in
+    (both.4 (subst (λ (a : AllocRows). Stands own.size (f own.rows) (g a.rows) (reached_in reached own.id)) (sym one) stands), numbered_with k f owns numbered)
+  where
+    same : (x y : AllocRows) → Some x ≡ Some y → x ≡ y
+    same x y h = cc

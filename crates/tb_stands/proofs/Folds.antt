@@ -114,7 +114,7 @@ root_both : (kept stays : ℕ → Bool) (rows : List Row) → ((t : ℕ) → Has
 root_both kept stays [] show root = absurd root
 root_both kept stays (row ∷ rows) show root = show row.tag (or_left _ _ (eq-eqb row.tag row.tag refl)) (eq-eqb row.tag row.tag refl)
 
-noted_own : (own : List Row) (reached : List ℕ) (t : ℕ) → AllByRecursion (HasTag own) reached → is_noted reached t ≡ true → HasTag own t
+pub noted_own : (own : List Row) (reached : List ℕ) (t : ℕ) → AllByRecursion (HasTag own) reached → is_noted reached t ≡ true → HasTag own t
 noted_own own [] t all noted = absurd (not_both false noted refl)
 noted_own own (k ∷ reached) t all noted = at (k == t) refl noted (noted_own own reached t all.1)
   where

@@ -16,3 +16,4 @@ pub mod Start
 pub mod Ends
 pub mod Computes
 pub mod OwnRows
+pub mod Told

@@ -6,7 +6,7 @@ use Rattle.std.proofs.lemmas.Bool.{eqb-true, eq-eqb, or_left, or_right}
 use Rattle.tb_perm.specs.Rows.{Row, is_tag, HasTag, IsRows, path_from}
 use Rattle.tb_perm.specs.Release.{is_below}
 use Rattle.tb_perm.proofs.Unique.{AllByRecursion-path_from, AllByRecursion-reverse}
-use Rattle.tb_stands.specs.Restricted.{is_kept, raised, restricted}
+use Rattle.tb_stands.specs.Restricted.{is_kept, nearest, raised, restricted}
 use Rattle.tb_stands.specs.Stands.{IsBare, IsCover, MayMiss}
 use Rattle.tb_stands.specs.Folded.{must_stay, IsFolded}
 use Rattle.tb_stands.proofs.Below.{not_both, below_less}
@@ -86,11 +86,12 @@ agree_all : (a b : ℕ → Bool) (rows : List Row) → ((t : ℕ) → HasTag row
 agree_all a b [] same = tt
 agree_all a b (row ∷ rows) same = (same row.tag (or_left _ _ (eq-eqb row.tag row.tag refl)), agree_all a b rows (λ t has. same t (or_right (is_tag t row) _ has)))
 
+pub nearest_agree : (a b : ℕ → Bool) (rows : List Row) → ((t : ℕ) → HasTag rows t → a t ≡ b t) → (o : Option ℕ) → nearest a (reverse rows) o ≡ nearest b (reverse rows) o
+nearest_agree a b rows same o =
+    ap (option_map (λ (row : Row). row.tag)) (find_agree (is_kept a) (is_kept b) (path_from (reverse rows) o) (AllByRecursion-path_from (λ (x : Row). a x.tag ≡ b x.tag) (reverse rows) o (AllByRecursion-reverse (λ (x : Row). a x.tag ≡ b x.tag) rows (agree_all a b rows same))))
+
 -- the kept rows depend on the tags of the rows alone
 pub restricted_agree : (a b : ℕ → Bool) (rows : List Row) → ((t : ℕ) → HasTag rows t → a t ≡ b t) → restricted a rows ≡ restricted b rows
 restricted_agree a b rows same =
     ap (map (raised a rows)) (filter_agree (is_kept a) (is_kept b) rows (agree_all a b rows same))
-    ∙ map_agree (raised a rows) (raised b rows) (λ x. ap (λ o. record x { parent = option_map (λ (row : Row). row.tag) o }) (near x.parent)) (filter (is_kept b) rows)
-  where
-    near : (o : Option ℕ) → find (is_kept a) (path_from (reverse rows) o) ≡ find (is_kept b) (path_from (reverse rows) o)
-    near o = find_agree (is_kept a) (is_kept b) (path_from (reverse rows) o) (AllByRecursion-path_from (λ (x : Row). a x.tag ≡ b x.tag) (reverse rows) o (AllByRecursion-reverse (λ (x : Row). a x.tag ≡ b x.tag) rows (agree_all a b rows same)))
+    ∙ map_agree (raised a rows) (raised b rows) (λ x. ap (λ o. record x { parent = o }) (nearest_agree a b rows same x.parent)) (filter (is_kept b) rows)

@@ -1,8 +1,8 @@
 -- Allocations whose own rows stand for eager rows, and the end of a call on both.
-use Rattle.std.specs.Prelude.{◌≡◌, ◌≢◌, ⊤, ℕ, Bool, true, ◌==◌, List, [], ◌∷◌, map, filter}
+use Rattle.std.specs.Prelude.{◌≡◌, ◌≢◌, ⊤, ℕ, ◌<◌, Bool, true, ◌==◌, List, [], ◌∷◌, map, filter}
 use Rattle.std.specs.List.{AllByRecursion}
 use Rattle.tb_perm.specs.declared.tag.Prov.{Prov}
-use Rattle.tb_perm.specs.Rows.{HasTag}
+use Rattle.tb_perm.specs.Rows.{Row, HasTag}
 use Rattle.tb_perm.specs.CallEnd.{AllocRows, is_live, Ended, Ends, Refuses}
 use Rattle.tb_stands.specs.Stands.{Stands}
 
@@ -25,6 +25,17 @@ StandAll reached (own ∷ owns) [] = ⊥
 abbrev pub AreNumbered : List AllocRows → Type 0
 AreNumbered [] = ⊤
 AreNumbered (alloc ∷ allocs) = AllByRecursion (λ (other : AllocRows). other.id ≢ alloc.id) allocs × AreNumbered allocs
+
+-- all eager tags of all allocations are below the next tag
+abbrev pub AreBelow : ℕ → List AllocRows → Type 0
+AreBelow next allocs = AllByRecursion (λ (alloc : AllocRows). AllByRecursion (λ (row : Row). row.tag < next) alloc.rows) allocs
+
+-- what the own allocations of a machine say of an eager state's: they stand for them, have numbers of their own,
+-- and the next tag is above all that were ever made
+pub record StandFor (reached : List Prov) (next : ℕ) (owns eagers : List AllocRows) : Type 0 where
+  pub stand : StandAll reached owns eagers
+  pub numbered : AreNumbered owns
+  pub below : AreBelow next eagers
 
 -- where its allocation is live the tag is there
 abbrev pub IsKnown : List AllocRows → Prov → Type 0

@@ -3,8 +3,10 @@
 
 mod events;
 mod folding;
+mod states;
 
 pub use events::{
     law_access, law_dealloc, law_ended, law_reborrow, law_release, law_start, law_unguard,
 };
 pub use folding::{law_folded, law_pruned};
+pub use states::{law_allocs, law_points};
