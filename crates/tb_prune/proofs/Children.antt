@@ -1,9 +1,9 @@
 -- The children of a tag among the rows that are left are its topmost descendants that stay.
-use Rattle.std.proofs.Common.{◌≡◌, ◌∙◌, ◌≢◌, ◌⊎◌, ◌↔◌, IsTrue, ◌&&◌, ◌||◌, ℕ, zero, suc, ◌<◌, ◌≤◌, Bool, true, false, not, List, [], ◌∷◌, reverse, refl, ap, sym, subst, arith, Option, Some, None, find, inl, inr, ◌==◌}
+use Rattle.std.proofs.Common.{◌≡◌, ◌∙◌, ◌≢◌, ◌⊎◌, ◌↔◌, IsTrue, ◌&&◌, ◌||◌, ℕ, zero, suc, ◌<◌, ◌≤◌, Bool, true, false, not, List, reverse, refl, ap, sym, subst, arith, Option, Some, None, find, inl, inr, ◌==◌}
 use Rattle.std.specs.Prelude.{option_and_then}
 use Rattle.std.specs.List.{list_any}
 use Rattle.std.proofs.lemmas.Bool.{eqb-true, cases_eq}
-use Rattle.tb_perm.specs.Rows.{Row, is_tag, HasTag, IsRows, path_to_root, is_on_path, guard_in}
+use Rattle.tb_perm.specs.Rows.{Row, is_tag, HasTag, IsRows, is_on_path, guard_in}
 use Rattle.tb_perm.specs.Table.{is_guarded}
 use Rattle.tb_perm.specs.Release.{is_below}
 use Rattle.tb_perm.specs.Pruning.{parent_in, perm_in, IsLeaf, IsOnlyChild, Folds}
@@ -13,8 +13,8 @@ use Rattle.tb_perm.proofs.Paths.{path_self, path_falls, path_top, path_up, path_
 use Rattle.tb_perm.proofs.Removed.{find_has}
 use Rattle.tb_perm.proofs.Roots.{parent_lesser}
 use Rattle.tb_stands.specs.Restricted.{restricted}
-use Rattle.tb_stands.specs.Stands.{IsBare, IsCover, MayMiss}
-use Rattle.tb_stands.proofs.Ways.{path_away, has_own, own_keeps, own_has, on_own, has_back}
+use Rattle.tb_stands.specs.Stands.{MayMiss}
+use Rattle.tb_stands.proofs.Ways.{path_away, own_keeps, own_has, on_own, has_back}
 use Rattle.tb_stands.proofs.Below.{not_both, below_on, on_below, below_less}
 use Rattle.tb_stands.proofs.Folds.{guard_own, perm_own}
 use Rattle.tb_prune.specs.Visits.{MayGo}

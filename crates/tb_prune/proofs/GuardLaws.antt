@@ -1,5 +1,5 @@
 -- How the guards of a tree go on agreeing with those of the running calls.
-use Rattle.std.proofs.Common.{◌≡◌, ◌∙◌, ◌⊎◌, ◌||◌, ◌&&◌, ◌++◌, ℕ, ◌<◌, Bool, true, false, cond, List, [], ◌∷◌, refl, ap, sym, subst, arith, Option, Some, None, find, All, inl, inr, ◌==◌}
+use Rattle.std.proofs.Common.{◌≡◌, ◌∙◌, ◌||◌, ◌&&◌, ◌++◌, ℕ, ◌<◌, Bool, true, false, cond, List, [], ◌∷◌, refl, ap, sym, subst, arith, Some, None, find, All, ◌==◌}
 use Rattle.std.specs.Prelude.{option_map, unwrap_or}
 use Rattle.std.specs.List.{list_any, AllByRecursion}
 use Rattle.std.proofs.lemmas.Bool.{eqb-true, eq-eqb, ne_eqb}
@@ -7,7 +7,6 @@ use Rattle.std.proofs.lemmas.List.Elements.{recursion_from_All}
 use Rattle.std.proofs.lemmas.List.Folds.{list_any-append}
 use Rattle.tb_perm.specs.declared.tag.AllocId.{AllocId}
 use Rattle.tb_perm.specs.declared.tag.Prov.{Prov}
-use Rattle.tb_perm.specs.declared.perm.Guard.{Guard}
 use Rattle.tb_perm.specs.declared.perm.Guard.TheVariants.{Free}
 use Rattle.tb_perm.specs.declared.new_tag.NewTag.{NewTag}
 use Rattle.tb_perm.specs.Rows.{Row, is_tag, HasTag, guard_in}
@@ -15,7 +14,6 @@ use Rattle.tb_perm.specs.Event.{Event, after}
 use Rattle.tb_perm.specs.Reborrow.{reborrow_event, reborrowed, reborrowed_rows, new_row}
 use Rattle.tb_perm.proofs.Found.{guard_in-after}
 use Rattle.tb_perm.proofs.Kept.{list_any-KeepsTree, after-keeps, All_tags-kept}
-use Rattle.tb_perm.proofs.Removed.{below_tag}
 use Rattle.tb_protect.specs.Frames.{Frames, kind_of, is_prov}
 use Rattle.tb_stands.specs.Folded.{Prunes}
 use Rattle.tb_stands.proofs.Ways.{own_keeps, own_has}

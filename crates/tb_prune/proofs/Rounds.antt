@@ -1,16 +1,16 @@
 -- A prune round by round: the first is nothing done, each decides one tag more, and at the root all are.
-use Rattle.std.proofs.Common.{◌≡◌, ◌∙◌, ◌≢◌, ◌⊎◌, ◌&&◌, ◌||◌, ℕ, zero, suc, ◌+◌, ◌<◌, ◌≤◌, Bool, true, false, cond, not, List, [], ◌∷◌, filter, refl, ap, sym, subst, arith, Option, Some, None, find, inl, inr, ◌==◌}
+use Rattle.std.proofs.Common.{◌≡◌, ◌∙◌, ◌≢◌, ◌⊎◌, ◌&&◌, ◌||◌, ℕ, zero, suc, ◌<◌, ◌≤◌, Bool, true, false, cond, not, List, [], ◌∷◌, refl, ap, sym, subst, arith, Option, Some, None, inl, inr, ◌==◌}
 use Rattle.std.specs.Prelude.{IsSome}
 use Rattle.std.specs.List.{list_any, AllByRecursion}
 use Rattle.std.proofs.lemmas.Bool.{eqb-true, eq-eqb, ne_eqb, cases_eq, or_left}
 use Rattle.tb_perm.specs.Rows.{Row, is_tag, HasTag, IsRows, guard_in}
 use Rattle.tb_perm.specs.Table.{is_guarded}
 use Rattle.tb_perm.specs.Release.{is_below}
-use Rattle.tb_perm.specs.Pruning.{is_noted, parent_in, forgotten, removed}
+use Rattle.tb_perm.specs.Pruning.{is_noted, parent_in, forgotten}
 use Rattle.tb_perm.proofs.Unique.{AreRising-rows}
 use Rattle.tb_stands.specs.Restricted.{restricted}
 use Rattle.tb_stands.specs.Stands.{MayMiss}
-use Rattle.tb_stands.specs.Folded.{is_first, must_stay, IsFolded, Prunes}
+use Rattle.tb_stands.specs.Folded.{is_first, must_stay, Prunes}
 use Rattle.tb_stands.proofs.Ways.{has_own, own_keeps, own_has}
 use Rattle.tb_stands.proofs.Below.{not_both, below_less}
 use Rattle.tb_stands.proofs.Folds.{both, restricted_twice, guard_own}

@@ -1,5 +1,5 @@
 -- A tree that is ready stays so.
-use Rattle.std.proofs.Common.{◌≡◌, ◌∙◌, ℕ, ◌<◌, cond, List, [], ◌∷◌, length, arith, ap, sym, subst, All}
+use Rattle.std.proofs.Common.{◌≡◌, ◌∙◌, ◌<◌, cond, [], ◌∷◌, length, arith, sym, subst, All}
 use Rattle.std.specs.Prelude.{Result, Ok, Err, OnOk}
 use Rattle.tb_perm.specs.declared.perm.Guard.{Guard}
 use Rattle.tb_perm.specs.declared.perm.Guard.TheVariants.{Free}

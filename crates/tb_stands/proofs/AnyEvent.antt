@@ -1,15 +1,13 @@
 -- Any event: it has the same report among the kept rows and among all, and where no tag refuses it the
 -- ones stand for the others again.
-use Rattle.std.proofs.Common.{◌≡◌, ◌∙◌, ◌≢◌, ◌⊎◌, ℕ, ◌<◌, ◌≤◌, Bool, true, false, cond, List, [], ◌∷◌, map, filter, reverse, refl, ap, sym, subst, arith, Option, Some, None, find, inl, inr, ◌==◌}
+use Rattle.std.proofs.Common.{◌≡◌, ◌∙◌, ℕ, ◌<◌, Bool, true, false, cond, List, [], ◌∷◌, map, reverse, refl, ap, sym, subst, Option, Some, None, find, inl, inr}
 use Rattle.std.specs.Prelude.{option_map, is_some}
-use Rattle.std.specs.List.{list_any, AllByRecursion}
+use Rattle.std.specs.List.{list_any}
 use Rattle.tb_perm.specs.declared.perm.State.{State}
 use Rattle.tb_perm.specs.declared.perm.Kind.{Kind}
-use Rattle.tb_perm.specs.declared.perm.Rel.{Rel}
 use Rattle.tb_perm.specs.declared.perm.Rel.TheVariants.{Local, Foreign}
-use Rattle.tb_perm.specs.declared.perm.Guard.TheVariants.{Free}
 use Rattle.tb_perm.specs.declared.report.Access.{Access}
-use Rattle.tb_perm.specs.Rows.{Row, is_tag, HasTag, IsRows, is_on_path, path_from, guard_in, state_at}
+use Rattle.tb_perm.specs.Rows.{Row, is_tag, HasTag, is_on_path, path_from, guard_in, state_at}
 use Rattle.tb_perm.specs.Tree.{KeepsTree}
 use Rattle.tb_perm.specs.Table.{is_guarded}
 use Rattle.tb_perm.specs.Event.{Event, after, moved_row, moved_states, moved_state, refusal_of, refusal_at, rel_of}
@@ -23,10 +21,10 @@ use Rattle.tb_perm.proofs.Paths.{path_chain}
 use Rattle.tb_perm.proofs.Removed.{find_has}
 use Rattle.tb_perm.proofs.Reported.{report_clear}
 use Rattle.tb_stands.specs.Restricted.{is_kept, nearest, raised, restricted}
-use Rattle.tb_stands.specs.Stands.{IsBare, IsCover, MayMiss, KeepsRoot, StandsBy}
+use Rattle.tb_stands.specs.Stands.{IsCover, MayMiss, KeepsRoot, StandsBy}
 use Rattle.tb_stands.proofs.Lists.{find_changed, path_changed, filter_changed, reverse_map, map_some}
 use Rattle.tb_stands.proofs.Ways.{on_own}
-use Rattle.tb_stands.proofs.Reports.{Among, Blames, find_any, report_same}
+use Rattle.tb_stands.proofs.Reports.{Among, find_any, report_same}
 use Rattle.tb_stands.proofs.Table.{refuses_local, moves_covered}
 use Rattle.tb_stands.proofs.Below.{not_both, below_on, kept_below, below_less, is_below-kept}
 

@@ -1,11 +1,11 @@
 -- Strict descendants.
-use Rattle.std.proofs.Common.{◌≡◌, ◌∙◌, ◌≢◌, ◌&&◌, ℕ, ◌<◌, ◌≤◌, Bool, true, false, not, List, refl, ap, sym, arith, ◌==◌}
-use Rattle.std.proofs.lemmas.Bool.{eqb-true, eq-eqb, ne_eqb, and_parts}
-use Rattle.tb_perm.specs.Rows.{Row, HasTag, IsRows, is_on_path}
+use Rattle.std.proofs.Common.{◌≡◌, ◌∙◌, ◌≢◌, ◌&&◌, ℕ, ◌<◌, ◌≤◌, Bool, true, false, not, List, ap, sym, arith, ◌==◌}
+use Rattle.std.proofs.lemmas.Bool.{eq-eqb, ne_eqb, and_parts}
+use Rattle.tb_perm.specs.Rows.{Row, IsRows, is_on_path}
 use Rattle.tb_perm.specs.Tree.{KeepsTree}
 use Rattle.tb_perm.specs.Release.{is_below}
 use Rattle.tb_perm.proofs.Kept.{is_on_path-kept}
-use Rattle.tb_perm.proofs.Paths.{path_chain, path_falls, path_has}
+use Rattle.tb_perm.proofs.Paths.{path_chain, path_falls}
 
 pub not_both : (b : Bool) → b ≡ true → b ≡ false → ⊥
 not_both true is isnt = cc

@@ -1,21 +1,21 @@
 -- The list of folded tags meets the rules.
-use Rattle.std.proofs.Common.{◌≡◌, ◌∙◌, ◌≢◌, ◌⊎◌, ◌&&◌, ◌||◌, ◌++◌, ℕ, zero, suc, ◌+◌, ◌<◌, ◌≤◌, Bool, true, false, cond, not, List, [], ◌∷◌, map, filter, reverse, refl, ap, sym, subst, arith, Option, Some, None, find, inl, inr, ◌==◌}
+use Rattle.std.proofs.Common.{◌≡◌, ◌∙◌, ◌⊎◌, ◌&&◌, ◌||◌, ◌++◌, ℕ, zero, suc, ◌+◌, ◌<◌, ◌≤◌, Bool, true, false, cond, not, List, [], ◌∷◌, map, filter, reverse, refl, ap, sym, subst, arith, Option, Some, None, find, inl, inr, ◌==◌}
 use Rattle.std.specs.Prelude.{leb, is_some}
-use Rattle.std.specs.List.{list_any, AllByRecursion, range_with_len}
+use Rattle.std.specs.List.{list_any, range_with_len}
 use Rattle.std.proofs.lemmas.Bool.{eqb-true, eq-eqb, ne_eqb, and_parts, leb-true, le-leb, or_left, or_right}
 use mathlib.Core.List.{reverse_aux}
 use Rattle.tb_perm.specs.Rows.{Row, is_tag, tags, HasTag, IsRows, is_on_path, guard_in}
 use Rattle.tb_perm.specs.Table.{is_guarded}
 use Rattle.tb_perm.specs.Release.{is_below}
-use Rattle.tb_perm.specs.Covers.{order_of, Covers}
+use Rattle.tb_perm.specs.Covers.{order_of}
 use Rattle.tb_perm.specs.Pruning.{is_noted, perm_in, Folds}
 use Rattle.tb_perm.proofs.Found.{has_found, found_tag}
 use Rattle.tb_perm.proofs.Order.{Covers-order, order-Covers}
 use Rattle.tb_perm.proofs.Paths.{path_falls}
 use Rattle.tb_perm.proofs.Removed.{below_tag, find_has}
 use Rattle.tb_perm.proofs.Unique.{AreRising, AreRising-rows, find_self}
-use Rattle.tb_stands.specs.Restricted.{is_kept, raised, restricted}
-use Rattle.tb_stands.specs.Stands.{IsBare, IsCover, MayMiss}
+use Rattle.tb_stands.specs.Restricted.{is_kept, raised}
+use Rattle.tb_stands.specs.Stands.{IsCover, MayMiss}
 use Rattle.tb_stands.specs.Folded.{must_stay, IsFolded, Prunes, is_uncovered, stays_below, is_beside, misses, may_miss, stays_with, folded_back, folded}
 use Rattle.tb_stands.proofs.Lists.{any_find}
 use Rattle.tb_stands.proofs.Ways.{IsBack, grown_back, find_All, has_back}

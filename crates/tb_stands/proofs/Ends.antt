@@ -1,7 +1,7 @@
 -- The end of a call on own rows and on eager rows.
-use Rattle.std.proofs.Common.{◌≡◌, ◌∙◌, ◌≢◌, ◌&&◌, ℕ, Bool, true, false, cond, List, [], ◌∷◌, map, refl, ap, sym, subst, Option, Some, None, find, ◌==◌}
+use Rattle.std.proofs.Common.{◌≡◌, ◌∙◌, ◌≢◌, ◌&&◌, ℕ, ◌<◌, ◌≤◌, Bool, true, false, cond, List, [], ◌∷◌, map, filter, refl, ap, sym, subst, arith, Option, Some, None, find, ◌==◌}
 use Rattle.std.specs.List.{AllByRecursion}
-use Rattle.std.proofs.lemmas.Bool.{eqb-true, ne_eqb, and_parts}
+use Rattle.std.proofs.lemmas.Bool.{eqb-true, eq-eqb, ne_eqb, and_parts}
 use Rattle.tb_perm.specs.declared.tag.Prov.{Prov}
 use Rattle.tb_perm.specs.declared.report.Report.{Report}
 use Rattle.tb_perm.specs.Rows.{Row, HasTag, unguarded}
@@ -9,7 +9,7 @@ use Rattle.tb_perm.specs.Release.{release_event, released, release_report}
 use Rattle.tb_perm.specs.CallEnd.{AllocRows, is_live, with_rows, Ended, Ends, Refuses, and_then, unless_refused, release_in, release_one, release_all, unguard_one, unguard_all, call_end}
 use Rattle.tb_perm.proofs.Kept.{HasTag-after}
 use Rattle.tb_stands.specs.Stands.{Stands}
-use Rattle.tb_stands.specs.Allocs.{reached_in, StandsAt, StandAll, AreNumbered, IsKnown, EndsAlike}
+use Rattle.tb_stands.specs.Allocs.{reached_in, StandsAt, StandAll, StandFor, AreBelow, AreNumbered, IsKnown, EndsAlike}
 use Rattle.tb_stands.proofs.Laws.{release_same, release_stands, unguarded_stands}
 
 -- one allocation is changed
@@ -222,3 +222,70 @@ alloc_changed reached k f g owns eagers stand numbered own eager found is stands
   where
     same : (x y : AllocRows) → Some x ≡ Some y → x ≡ y
     same x y h = cc
+
+-- Whole states.
+
+numbered_same : (reached : List Prov) (owns eagers : List AllocRows) → StandAll reached owns eagers → AreNumbered owns → AreNumbered eagers
+numbered_same reached [] [] stand numbered = tt
+numbered_same reached (o ∷ owns) (e ∷ eagers) stand numbered = (
+  subst (λ n. AllByRecursion (λ (a : AllocRows). a.id ≢ n) eagers) stand.0.0 (away_same reached o.id owns eagers stand.1 numbered.0),
+  numbered_same reached owns eagers stand.1 numbered.1,
+)
+numbered_same reached [] (e ∷ eagers) stand numbered = absurd stand
+numbered_same reached (o ∷ owns) [] stand numbered = absurd stand
+
+rows_below : (next now : ℕ) → next ≤ now → (rows : List Row) → AllByRecursion (λ (row : Row). row.tag < next) rows → AllByRecursion (λ (row : Row). row.tag < now) rows
+rows_below next now least [] all = tt
+rows_below next now least (row ∷ rows) all = (omega (arith, all.0, least), rows_below next now least rows all.1)
+
+below_later : (next now : ℕ) → next ≤ now → (allocs : List AllocRows) → AreBelow next allocs → AreBelow now allocs
+below_later next now least [] below = tt
+below_later next now least (a ∷ allocs) below = (rows_below next now least a.rows below.0, below_later next now least allocs below.1)
+
+below_with : (now k : ℕ) (g : List Row → List Row) (allocs : List AllocRows) (a : AllocRows) → AreNumbered allocs → AreBelow now allocs → find (is_live k) allocs ≡ Some a → AllByRecursion (λ (row : Row). row.tag < now) (g a.rows) → AreBelow now (with_rows k g allocs)
+below_with now k g [] a numbered below found rows = tt
+below_with now k g (x ∷ allocs) a numbered below found rows = at (is_live k x) refl found (λ found. below_with now k g allocs a numbered.1 below.1 found rows)
+  where
+    at : (b : Bool) → is_live k x ≡ b → cond b (Some x) (find (is_live k) allocs) ≡ Some a → (find (is_live k) allocs ≡ Some a → AreBelow now (with_rows k g allocs)) → AreBelow now (changed (is_live k x) g x ∷ with_rows k g allocs)
+    at true is found later =
+        let one : x ≡ a = cc in
+        let id : x.id ≡ k = eqb-true x.id k (and_parts x.live (x.id == k) is).1 in
+        let rest : with_rows k g allocs ≡ allocs = with_away k g allocs (subst (λ n. AllByRecursion (λ (y : AllocRows). y.id ≢ n) allocs) id numbered.0) in
+        subst (λ b. AreBelow now (changed b g x ∷ with_rows k g allocs)) (sym is)
+        (subst (λ (y : AllocRows). AllByRecursion (λ (row : Row). row.tag < now) (g y.rows)) (sym one) rows, subst (AreBelow now) (sym rest) below.1)
+    at false is found later = subst (λ b. AreBelow now (changed b g x ∷ with_rows k g allocs)) (sym is) (below.0, later found)
+
+pub state_changed : (reached : List Prov) (next now k : ℕ) (f g : List Row → List Row) (owns eagers : List AllocRows) → StandFor reached next owns eagers → next ≤ now → (own eager : AllocRows) → find (is_live k) owns ≡ Some own → find (is_live k) eagers ≡ Some eager → Stands own.size (f own.rows) (g eager.rows) (reached_in reached own.id) → AllByRecursion (λ (row : Row). row.tag < now) (g eager.rows) → StandFor reached now (with_rows k f owns) (with_rows k g eagers)
+state_changed reached next now k f g owns eagers state least own eager found is stands rows =
+    let both = alloc_changed reached k f g owns eagers state.stand state.numbered own eager found is stands in
+    record {
+      stand = both.0;
+      numbered = both.1;
+      below = below_with now k g eagers eager (numbered_same reached owns eagers state.stand state.numbered) (below_later next now least eagers state.below) is rows;
+    }
+
+-- the tags of an allocation that are known in it
+known_tags : (ps : List Prov) (a : AllocRows) → a.live ≡ true → AllByRecursion (λ (p : Prov). is_live p.alloc.0 a ≡ true → HasTag a.rows p.tag.0) ps → AllByRecursion (HasTag a.rows) (reached_in ps a.id)
+known_tags [] a live all = tt
+known_tags (p ∷ ps) a live all = at (p.alloc.0 == a.id) refl (known_tags ps a live all.1)
+  where
+    at : (b : Bool) → (p.alloc.0 == a.id) ≡ b → AllByRecursion (HasTag a.rows) (reached_in ps a.id) → AllByRecursion (HasTag a.rows) (map (λ (q : Prov). q.tag.0) (cond b (p ∷ filter (λ (q : Prov). q.alloc.0 == a.id) ps) (filter (λ (q : Prov). q.alloc.0 == a.id) ps)))
+    at true same rest = (all.0 (ap (λ b. b && a.id == p.alloc.0) live ∙ eq-eqb a.id p.alloc.0 (sym (eqb-true p.alloc.0 a.id same))), rest)
+    at false other rest = rest
+
+head_known : (a : AllocRows) (allocs : List AllocRows) (ps : List Prov) → AllByRecursion (IsKnown (a ∷ allocs)) ps → AllByRecursion (λ (p : Prov). is_live p.alloc.0 a ≡ true → HasTag a.rows p.tag.0) ps × AllByRecursion (IsKnown allocs) ps
+head_known a allocs [] known = (tt, tt)
+head_known a allocs (p ∷ ps) known = let rest = head_known a allocs ps known.1 in ((known.0.0, rest.0), (known.0.1, rest.1))
+
+reached_all : (reached now : List Prov) (owns eagers : List AllocRows) → StandAll reached owns eagers → AllByRecursion (IsKnown owns) now → StandAll now owns eagers
+reached_all reached now [] [] stand known = tt
+reached_all reached now (o ∷ owns) (e ∷ eagers) stand known =
+    let parts = head_known o owns now known in (
+      (stand.0.0, stand.0.1, stand.0.2, λ live. ((stand.0.3 live).0, (stand.0.3 live).1, known_tags now o live parts.0)),
+      reached_all reached now owns eagers stand.1 parts.1,
+    )
+reached_all reached now [] (e ∷ eagers) stand known = absurd stand
+reached_all reached now (o ∷ owns) [] stand known = absurd stand
+
+pub state_reached : (reached now : List Prov) (next : ℕ) (owns eagers : List AllocRows) → StandFor reached next owns eagers → AllByRecursion (IsKnown owns) now → StandFor now next owns eagers
+state_reached reached now next owns eagers state known = record { stand = reached_all reached now owns eagers state.stand known; numbered = state.numbered; below = state.below }

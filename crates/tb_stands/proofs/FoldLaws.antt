@@ -1,13 +1,13 @@
 -- What pruning leaves.
 use Rattle.std.proofs.Common.{◌≡◌, ◌∙◌, ℕ, Bool, true, List, [], ◌∷◌, refl, ap, sym, subst}
-use Rattle.std.specs.List.{list_any, AllByRecursion}
+use Rattle.std.specs.List.{AllByRecursion}
 use Rattle.std.proofs.lemmas.Bool.{or_left, or_right}
 use Rattle.std.proofs.lemmas.Bool.{eq-eqb}
-use Rattle.tb_perm.specs.Rows.{Row, is_tag, HasTag, IsRows}
+use Rattle.tb_perm.specs.Rows.{Row, HasTag, IsRows}
 use Rattle.tb_perm.specs.Pruning.{is_noted}
 use Rattle.tb_stands.specs.Restricted.{restricted}
 use Rattle.tb_stands.specs.Stands.{StandsBy, Stands}
-use Rattle.tb_stands.specs.Folded.{is_first, must_stay, IsFolded, Prunes}
+use Rattle.tb_stands.specs.Folded.{is_first, IsFolded, Prunes}
 use Rattle.tb_stands.proofs.Ways.{has_own}
 use Rattle.tb_stands.proofs.Folds.{both, restricted_twice, folded_all, folded_stands}
 use Rattle.tb_stands.proofs.One.{one_folded, restricted_agree}

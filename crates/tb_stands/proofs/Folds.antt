@@ -1,24 +1,24 @@
 -- What is folded among own rows is folded among all.
-use Rattle.std.proofs.Common.{◌≡◌, ◌∙◌, ◌≢◌, ◌⊎◌, ◌&&◌, ◌||◌, ℕ, zero, suc, ◌+◌, ◌<◌, ◌≤◌, Bool, true, false, cond, not, List, [], ◌∷◌, map, filter, reverse, refl, ap, sym, subst, arith, Option, Some, None, find, inl, inr, ◌==◌}
+use Rattle.std.proofs.Common.{◌≡◌, ◌∙◌, ◌&&◌, ◌||◌, ℕ, Bool, true, false, cond, not, List, [], ◌∷◌, reverse, refl, ap, sym, subst, Option, Some, None, find, inl, inr, ◌==◌}
 use Rattle.std.specs.Prelude.{option_map, unwrap_or}
 use Rattle.std.specs.List.{list_any, AllByRecursion}
-use Rattle.std.proofs.lemmas.Bool.{eqb-true, eq-eqb, and_parts, or_left, or_right}
+use Rattle.std.proofs.lemmas.Bool.{eqb-true, eq-eqb, and_parts, or_left}
 use Rattle.tb_perm.specs.declared.perm.Guard.{Guard}
 use Rattle.tb_perm.specs.declared.perm.Guard.TheVariants.{Free, Weak, Strong}
 use Rattle.tb_perm.specs.declared.perm.Perm.TheVariants.{Disabled}
-use Rattle.tb_perm.specs.Rows.{Row, is_tag, HasTag, IsRows, is_on_path, path_from, guard_in, state_at}
+use Rattle.tb_perm.specs.Rows.{Row, is_tag, HasTag, IsRows, path_from, guard_in, state_at}
 use Rattle.tb_perm.specs.Table.{is_guarded}
 use Rattle.tb_perm.specs.Release.{is_below}
 use Rattle.tb_perm.specs.Pruning.{is_noted, perm_in}
 use Rattle.tb_perm.specs.Covers.{Covers}
 use Rattle.tb_perm.proofs.Order.{Covers-chain}
 use Rattle.tb_stands.specs.Restricted.{is_kept, nearest, raised, restricted}
-use Rattle.tb_stands.specs.Stands.{IsBare, IsCover, MayMiss, KeepsRoot, StandsBy}
+use Rattle.tb_stands.specs.Stands.{IsCover, MayMiss, KeepsRoot, StandsBy}
 use Rattle.tb_stands.specs.Folded.{is_first, must_stay, IsFolded}
 use Rattle.tb_stands.proofs.Lists.{some_of, front, some_of-step, find_both}
 use Rattle.tb_stands.proofs.Ways.{path_nearest, find_own, has_own, own_keeps, own_has, on_own}
 use Rattle.tb_stands.proofs.Table.{covers_guard}
-use Rattle.tb_stands.proofs.Below.{not_both, below_on, on_below, below_less, below_chain}
+use Rattle.tb_stands.proofs.Below.{not_both, below_on, on_below, below_chain}
 
 -- kept before, and staying now
 abbrev pub both : (ℕ → Bool) → (ℕ → Bool) → ℕ → Bool

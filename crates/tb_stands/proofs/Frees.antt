@@ -1,5 +1,5 @@
 -- A deallocation among the kept rows and among all.
-use Rattle.std.proofs.Common.{◌≡◌, ◌∙◌, ◌&&◌, ℕ, Bool, true, false, cond, not, List, refl, ap, sym, subst, Option, Some, None}
+use Rattle.std.proofs.Common.{◌≡◌, ◌∙◌, ◌&&◌, ℕ, Bool, true, false, cond, not, List, refl, ap, sym, Option, Some, None}
 use Rattle.std.specs.Prelude.{is_some}
 use Rattle.std.specs.Option.{option_or}
 use Rattle.tb_perm.specs.declared.perm.Guard.{Guard}
@@ -18,7 +18,7 @@ use Rattle.tb_perm.proofs.Found.{guard_in-found}
 use Rattle.tb_perm.proofs.Removed.{find_has}
 use Rattle.tb_stands.specs.Restricted.{restricted}
 use Rattle.tb_stands.specs.Stands.{StandsBy}
-use Rattle.tb_stands.proofs.Reports.{Among, Blames, report_same}
+use Rattle.tb_stands.proofs.Reports.{Among, report_same}
 use Rattle.tb_stands.proofs.AnyEvent.{event_report, event_stands}
 use Rattle.tb_stands.proofs.Seen.{access_seen}
 

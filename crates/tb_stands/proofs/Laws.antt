@@ -1,5 +1,5 @@
 -- The events on own rows that stand for all rows.
-use Rattle.std.proofs.Common.{◌≡◌, ◌∙◌, ◌++◌, ℕ, ◌<◌, Bool, true, List, [], ◌∷◌, refl, ap, sym, subst, None, All}
+use Rattle.std.proofs.Common.{◌≡◌, ◌∙◌, ◌++◌, ℕ, ◌<◌, Bool, true, List, [], ◌∷◌, refl, sym, subst, None, All}
 use Rattle.std.specs.List.{AllByRecursion}
 use Rattle.std.proofs.lemmas.List.Elements.{recursion_from_All}
 use Rattle.std.proofs.lemmas.List.FromFn.{length-map-range_with_len}
@@ -7,9 +7,7 @@ use Rattle.tb_perm.specs.declared.perm.Kind.{Kind}
 use Rattle.tb_perm.specs.declared.perm.Kind.TheVariants.{Write}
 use Rattle.tb_perm.specs.declared.new_tag.NewTag.{NewTag}
 use Rattle.tb_perm.specs.declared.report.Access.TheVariants.{CallEnd as OfCallEnd, Reborrow as OfReborrow}
-use Rattle.tb_perm.specs.declared.report.Report.{Report}
 use Rattle.tb_perm.specs.Rows.{Row, HasTag, unguarded}
-use Rattle.tb_perm.specs.Event.{Event, after, refusal_at}
 use Rattle.tb_perm.specs.Access.{access_event, access_of, accessed, access_report}
 use Rattle.tb_perm.specs.Release.{release_event, released, release_report}
 use Rattle.tb_perm.specs.Reborrow.{reborrow_event, reborrowed, reborrowed_rows, reborrow_report, new_row, new_state}

@@ -1,10 +1,9 @@
 -- Lists of rows that are changed one by one and of which some are left out.
-use Rattle.std.proofs.Common.{◌≡◌, ◌∙◌, ◌||◌, ◌++◌, ℕ, Bool, true, false, cond, List, [], ◌∷◌, map, filter, reverse, refl, ap, sym, Option, Some, None, find, ◌==◌}
-use Rattle.std.specs.Prelude.{option_map, option_and_then, is_some}
-use Rattle.std.specs.List.{list_any, AllByRecursion}
+use Rattle.std.proofs.Common.{◌≡◌, ◌∙◌, ◌||◌, ℕ, Bool, true, false, cond, List, [], ◌∷◌, map, filter, refl, ap, sym, Option, Some, None, find, ◌==◌}
+use Rattle.std.specs.Prelude.{option_map, is_some}
+use Rattle.std.specs.List.{list_any}
 use mathlib.Core.List.{reverse_aux}
-use Rattle.tb_perm.specs.Rows.{Row, is_tag, is_asked, HasTag, path_from}
-use Rattle.tb_stands.specs.Restricted.{is_kept}
+use Rattle.tb_perm.specs.Rows.{Row, path_from}
 
 -- the rows that pass a test, changed
 abbrev pub some_of : (Row → Bool) → (Row → Row) → List Row → List Row

@@ -1,13 +1,13 @@
 -- A new row among the kept rows and among all.
-use Rattle.std.proofs.Common.{◌≡◌, ◌∙◌, ◌≢◌, ◌⊎◌, ◌||◌, ◌&&◌, ◌++◌, ℕ, ◌<◌, Bool, true, false, cond, not, List, [], ◌∷◌, length, reverse, refl, ap, sym, subst, arith, Option, Some, None, find, inl, inr, ◌==◌}
+use Rattle.std.proofs.Common.{◌≡◌, ◌∙◌, ◌⊎◌, ◌||◌, ◌&&◌, ◌++◌, ℕ, ◌<◌, Bool, true, false, cond, not, List, [], ◌∷◌, length, reverse, refl, ap, sym, subst, arith, Option, Some, None, find, inl, inr, ◌==◌}
 use Rattle.std.specs.Prelude.{option_map, option_and_then, unwrap_or}
 use Rattle.std.specs.List.{list_any, AllByRecursion}
-use Rattle.std.proofs.lemmas.Bool.{eqb-true, eq-eqb, ne_eqb, or_left, or_right, cases_eq}
+use Rattle.std.proofs.lemmas.Bool.{eqb-true, eq-eqb, ne_eqb, or_left}
 use Rattle.std.proofs.lemmas.List.{reverse-append}
 use Rattle.std.proofs.lemmas.List.Folds.{list_any-append}
 use Rattle.tb_perm.specs.declared.perm.Perm.TheVariants.{Disabled}
 use Rattle.tb_perm.specs.declared.perm.Guard.TheVariants.{Free}
-use Rattle.tb_perm.specs.Rows.{Row, is_tag, HasTag, IsRows, path_from, path_to_root, is_on_path, guard_in, state_at}
+use Rattle.tb_perm.specs.Rows.{Row, is_tag, HasTag, path_from, path_to_root, is_on_path, guard_in, state_at}
 use Rattle.tb_perm.specs.Release.{is_below}
 use Rattle.tb_perm.specs.Table.{is_guarded}
 use Rattle.tb_perm.specs.Pruning.{perm_in, parent_in}
@@ -17,11 +17,11 @@ use Rattle.tb_perm.proofs.Removed.{below_tag}
 use Rattle.tb_perm.proofs.Roots.{parent_lesser}
 use Rattle.tb_perm.proofs.Unique.{AreRising-rows, find_self}
 use Rattle.tb_stands.specs.Restricted.{is_kept, nearest, raised, restricted}
-use Rattle.tb_stands.specs.Stands.{IsBare, IsCover, MayMiss, KeepsRoot, StandsBy}
+use Rattle.tb_stands.specs.Stands.{MayMiss, KeepsRoot, StandsBy}
 use Rattle.tb_stands.proofs.Lists.{some_of, front, some_of-step}
 use Rattle.tb_stands.proofs.Ways.{path_none, passed, nearest_self, has_back}
 use Rattle.tb_stands.proofs.Reports.{Among}
-use Rattle.tb_stands.proofs.Below.{not_both, below_on, on_below, kept_below, kept_differs}
+use Rattle.tb_stands.proofs.Below.{not_both, below_on, kept_below, kept_differs}
 
 some_append : (p : Row → Bool) (f : Row → Row) (xs ys : List Row) → some_of p f (xs ++ ys) ≡ some_of p f xs ++ some_of p f ys
 some_append p f [] ys = refl

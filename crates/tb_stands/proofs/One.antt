@@ -1,5 +1,5 @@
 -- Only one set of tags is folded.
-use Rattle.std.proofs.Common.{◌≡◌, ◌∙◌, ◌⊎◌, ◌||◌, ℕ, zero, suc, ◌+◌, ◌<◌, ◌≤◌, Bool, true, false, cond, List, [], ◌∷◌, map, filter, reverse, find, Option, Some, refl, ap, sym, arith, inl, inr}
+use Rattle.std.proofs.Common.{◌≡◌, ◌∙◌, ◌||◌, ℕ, zero, suc, ◌+◌, ◌<◌, ◌≤◌, Bool, true, false, cond, List, [], ◌∷◌, map, filter, reverse, find, Option, Some, refl, ap, sym, arith, inl, inr}
 use Rattle.std.specs.Prelude.{option_map}
 use Rattle.std.specs.List.{list_any, AllByRecursion}
 use Rattle.std.proofs.lemmas.Bool.{eqb-true, eq-eqb, or_left, or_right}
@@ -7,7 +7,7 @@ use Rattle.tb_perm.specs.Rows.{Row, is_tag, HasTag, IsRows, path_from}
 use Rattle.tb_perm.specs.Release.{is_below}
 use Rattle.tb_perm.proofs.Unique.{AllByRecursion-path_from, AllByRecursion-reverse}
 use Rattle.tb_stands.specs.Restricted.{is_kept, nearest, raised, restricted}
-use Rattle.tb_stands.specs.Stands.{IsBare, IsCover, MayMiss}
+use Rattle.tb_stands.specs.Stands.{MayMiss}
 use Rattle.tb_stands.specs.Folded.{must_stay, IsFolded}
 use Rattle.tb_stands.proofs.Below.{not_both, below_less}
 

@@ -1,17 +1,17 @@
 -- Own rows are the rows of an allocation.
-use Rattle.std.proofs.Common.{◌≡◌, ◌∙◌, ◌||◌, ℕ, ◌<◌, Bool, true, false, cond, List, [], ◌∷◌, length, reverse, refl, ap, sym, subst, Option, Some, None, find, ◌==◌}
+use Rattle.std.proofs.Common.{◌≡◌, ◌∙◌, ◌||◌, ℕ, ◌<◌, Bool, true, false, cond, List, [], ◌∷◌, length, reverse, refl, ap, sym, subst, Some, None, find, ◌==◌}
 use Rattle.std.specs.Prelude.{option_map, is_some}
 use Rattle.std.specs.List.{list_any, AllByRecursion}
-use Rattle.std.proofs.lemmas.Bool.{eqb-true, eq-eqb, or_left, or_right}
+use Rattle.std.proofs.lemmas.Bool.{eq-eqb, or_left, or_right}
 use mathlib.Core.List.{reverse_aux}
-use Rattle.tb_perm.specs.Rows.{Row, is_tag, HasTag, IsNext, IsGrown, IsRows, path_from}
+use Rattle.tb_perm.specs.Rows.{Row, is_tag, HasTag, IsGrown, IsRows, path_from}
 use Rattle.tb_perm.proofs.Found.{found_tag}
 use Rattle.tb_perm.proofs.Kept.{IsGrown-next}
 use Rattle.tb_stands.specs.Restricted.{is_kept, nearest, raised, restricted}
-use Rattle.tb_stands.specs.Stands.{KeepsRoot, StandsBy, Stands}
+use Rattle.tb_stands.specs.Stands.{KeepsRoot, Stands}
 use Rattle.tb_stands.specs.Folded.{Prunes, folded}
 use Rattle.tb_stands.proofs.Lists.{some_of, front, some_of-step, find_some, any_find, some_map}
-use Rattle.tb_stands.proofs.Ways.{IsBack, grown_back, path_none, Agrees, agrees_older, nearest_older, reverse_own}
+use Rattle.tb_stands.proofs.Ways.{grown_back, path_none, Agrees, agrees_older, nearest_older, reverse_own}
 use Rattle.tb_stands.proofs.FoldLaws.{left_same}
 use Rattle.tb_stands.proofs.Computes.{stays, computes, left_list}
 

@@ -1,20 +1,19 @@
 -- An event has the same report among the kept rows as among all: where a row that is left out refuses, a
 -- kept one refuses too, which is nearer on the path.
-use Rattle.std.proofs.Common.{◌≡◌, ◌∙◌, ◌≢◌, ◌⊎◌, ◌||◌, ℕ, zero, suc, ◌+◌, ◌<◌, ◌≤◌, Bool, true, false, cond, List, [], ◌∷◌, reverse, refl, ap, sym, subst, arith, Option, Some, None, find, ◌==◌}
+use Rattle.std.proofs.Common.{◌≡◌, ◌∙◌, ◌||◌, ℕ, zero, suc, ◌+◌, ◌<◌, ◌≤◌, Bool, true, false, cond, List, [], ◌∷◌, reverse, refl, ap, sym, arith, Option, Some, None, find, ◌==◌}
 use Rattle.std.specs.Prelude.{option_map, option_and_then, is_some}
 use Rattle.std.specs.List.{list_any, AllByRecursion, range_with_len}
 use Rattle.std.specs.Option.{option_or}
-use Rattle.std.proofs.lemmas.Bool.{eqb-true, eq-eqb, ne_eqb}
-use Rattle.std.proofs.lemmas.Option.{same_Some}
+use Rattle.std.proofs.lemmas.Bool.{eqb-true}
 use Rattle.tb_perm.specs.declared.report.Access.{Access}
 use Rattle.tb_perm.specs.declared.report.Refusal.{Refusal}
-use Rattle.tb_perm.specs.Rows.{Row, is_tag, is_asked, HasTag, IsRows, path_from, path_to_root, is_on_path}
+use Rattle.tb_perm.specs.Rows.{Row, is_tag, is_asked, IsRows, path_from, path_to_root, is_on_path}
 use Rattle.tb_perm.specs.Choice.{refuses, refused_byte, refusing_row, report_on, report_at, report_of}
 use Rattle.tb_perm.proofs.Found.{has_found, found_tag, found_All}
 use Rattle.tb_perm.proofs.Unique.{AreRising-rows, find_self, AllByRecursion-path_from, AllByRecursion-path_to_root}
 use Rattle.tb_perm.proofs.Reported.{found_range}
 use Rattle.tb_stands.specs.Restricted.{is_kept, raised, restricted}
-use Rattle.tb_stands.proofs.Lists.{some_of, find_some, any_find}
+use Rattle.tb_stands.proofs.Lists.{find_some, any_find}
 use Rattle.tb_stands.proofs.Ways.{IsBack, grown_back, find_All, path_own, find_own}
 
 -- the row is the one that a search for its tag finds

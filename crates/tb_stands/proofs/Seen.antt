@@ -1,5 +1,5 @@
 -- Accesses, the reads of reborrows, and releases, as they are seen among the kept rows and among all.
-use Rattle.std.proofs.Common.{◌≡◌, ◌∙◌, ◌≢◌, ◌⊎◌, ◌&&◌, ℕ, ◌<◌, ◌≤◌, Bool, true, false, cond, not, List, refl, ap, sym, arith, Option, Some, None, find, inl, inr, ◌==◌}
+use Rattle.std.proofs.Common.{◌≡◌, ◌∙◌, ◌≢◌, ◌⊎◌, ◌&&◌, ℕ, ◌≤◌, Bool, true, false, cond, not, List, refl, ap, sym, arith, Option, Some, None, find, inl, inr, ◌==◌}
 use Rattle.std.specs.Prelude.{option_map, option_and_then}
 use Rattle.tb_perm.specs.declared.perm.Kind.{Kind}
 use Rattle.tb_perm.specs.declared.new_tag.NewTag.{NewTag}

@@ -1,8 +1,8 @@
 -- All rows stand for themselves; and rows without one tag are the rows of the others.
-use Rattle.std.proofs.Common.{◌≡◌, ◌∙◌, ◌≢◌, ℕ, ◌<◌, Bool, true, false, cond, not, List, [], ◌∷◌, map, filter, reverse, refl, ap, sym, subst, arith, Option, Some, None, find, ◌==◌}
+use Rattle.std.proofs.Common.{◌≡◌, ◌∙◌, ◌≢◌, ℕ, ◌<◌, Bool, true, false, cond, not, List, [], ◌∷◌, reverse, refl, ap, sym, arith, Option, Some, None, find, ◌==◌}
 use Rattle.std.specs.Prelude.{option_map, option_and_then}
-use Rattle.std.specs.List.{list_any, AllByRecursion}
-use Rattle.std.proofs.lemmas.Bool.{eqb-true, eq-eqb, ne_eqb, cases_eq}
+use Rattle.std.specs.List.{AllByRecursion}
+use Rattle.std.proofs.lemmas.Bool.{eqb-true, eq-eqb, ne_eqb}
 use Rattle.tb_perm.specs.Rows.{Row, is_tag, HasTag, IsRows, path_from}
 use Rattle.tb_perm.specs.Pruning.{parent_in, is_child, moved_up_row, removed}
 use Rattle.tb_perm.proofs.Found.{has_found, found_tag}
@@ -10,8 +10,8 @@ use Rattle.tb_perm.proofs.Paths.{path_step}
 use Rattle.tb_perm.proofs.Roots.{parent_lesser}
 use Rattle.tb_perm.proofs.Unique.{AreRising-rows, find_self}
 use Rattle.tb_stands.specs.Restricted.{is_kept, nearest, raised, restricted}
-use Rattle.tb_stands.specs.Stands.{KeepsRoot, StandsBy, Stands}
-use Rattle.tb_stands.proofs.Lists.{some_of, front, some_of-step}
+use Rattle.tb_stands.specs.Stands.{KeepsRoot, Stands}
+use Rattle.tb_stands.proofs.Lists.{some_of}
 use Rattle.tb_stands.proofs.Ways.{path_none, nearest_self, has_back}
 use Rattle.tb_stands.proofs.Reports.{Among}
 use Rattle.tb_stands.proofs.Made.{some_agree}

@@ -1,5 +1,5 @@
 -- What the table says of a tag and one that covers it.
-use Rattle.std.proofs.Common.{◌≡◌, ◌∙◌, ◌&&◌, Bool, true, false, cond, not, refl, ap, sym, subst, Option, Some, None}
+use Rattle.std.proofs.Common.{◌≡◌, Bool, true, false, cond, refl, Option, Some, None}
 use Rattle.std.specs.Prelude.{Result, Ok, Err, is_some, is_err}
 use Rattle.tb_perm.specs.declared.perm.Perm.{Perm}
 use Rattle.tb_perm.specs.declared.perm.State.{State}
@@ -8,9 +8,9 @@ use Rattle.tb_perm.specs.declared.perm.Rel.{Rel}
 use Rattle.tb_perm.specs.declared.perm.Rel.TheVariants.{Local, Foreign}
 use Rattle.tb_perm.specs.declared.report.Refusal.{Refusal}
 use Rattle.tb_perm.specs.declared.report.Refusal.TheVariants.{Protected}
-use Rattle.tb_perm.specs.Table.{step_of, after_local, after_foreign, loses, made_accessed}
+use Rattle.tb_perm.specs.Table.{after_local, after_foreign, loses, made_accessed}
 use Rattle.tb_perm.specs.Event.{moved_state, refusal_of, state_after, refusal_in}
-use Rattle.tb_perm.specs.Covers.{Covers, HoldsAfter, moved}
+use Rattle.tb_perm.specs.Covers.{Covers, HoldsAfter}
 use Rattle.tb_perm.proofs.Order.{Covers-keeps, Covers-order, order-Covers}
 
 -- whatever its guard becomes

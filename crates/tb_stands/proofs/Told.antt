@@ -6,8 +6,7 @@ use Rattle.std.proofs.lemmas.Bool.{eqb-true, eq-eqb, ne_eqb, and_parts, cases_eq
 use Rattle.tb_perm.specs.declared.perm.State.{State}
 use Rattle.tb_perm.specs.declared.perm.Guard.{Guard}
 use Rattle.tb_perm.specs.declared.span.Span.{Span}
-use Rattle.tb_perm.specs.Rows.{Row, is_tag, HasTag, IsRows, is_on_path, guard_in}
-use Rattle.tb_perm.specs.Table.{is_guarded}
+use Rattle.tb_perm.specs.Rows.{Row, is_tag, HasTag, IsRows, is_on_path}
 use Rattle.tb_perm.specs.Release.{is_below}
 use Rattle.tb_perm.specs.Pruning.{is_noted}
 use Rattle.tb_perm.proofs.Found.{has_found, found_tag, found_All}
@@ -15,7 +14,7 @@ use Rattle.tb_perm.proofs.Paths.{path_self, path_chain, path_falls}
 use Rattle.tb_perm.proofs.Removed.{find_has}
 use Rattle.tb_perm.proofs.Unique.{AreRising, AreRising-rows}
 use Rattle.tb_stands.specs.Restricted.{nearest, raised, restricted}
-use Rattle.tb_stands.specs.Stands.{IsCover, MayMiss, KeepsRoot, StandsBy, Stands}
+use Rattle.tb_stands.specs.Stands.{MayMiss, KeepsRoot, Stands}
 use Rattle.tb_stands.specs.Folded.{is_first}
 use Rattle.tb_stands.specs.Points.{has, IsOwnRow, IsTopmost, MayLack, StandsInPoints}
 use Rattle.tb_stands.proofs.Lists.{any_find}

@@ -1,7 +1,6 @@
 -- The end of a guard among the kept rows and among all.
-use Rattle.std.proofs.Common.{◌≡◌, ◌∙◌, ◌≢◌, ◌⊎◌, ℕ, Bool, true, false, cond, List, [], ◌∷◌, map, filter, reverse, refl, ap, sym, subst, Option, Some, None, find, inl, inr}
+use Rattle.std.proofs.Common.{◌≡◌, ◌∙◌, ◌≢◌, ◌⊎◌, ℕ, Bool, true, false, cond, List, map, reverse, refl, ap, sym, subst, Option, Some, None, find, inl, inr}
 use Rattle.std.specs.Prelude.{option_map, unwrap_or}
-use Rattle.std.specs.List.{list_any}
 use Rattle.std.proofs.lemmas.Bool.{cases_eq}
 use Rattle.tb_perm.specs.declared.perm.State.{State}
 use Rattle.tb_perm.specs.declared.perm.Perm.TheVariants.{Disabled}
@@ -14,7 +13,7 @@ use Rattle.tb_perm.specs.Covers.{Covers}
 use Rattle.tb_perm.proofs.Found.{find-unguarded, guard_in-unguarded, guard_in-other}
 use Rattle.tb_perm.proofs.Kept.{unguarded-keeps, IsRows-unguarded, list_any-KeepsTree, is_on_path-kept}
 use Rattle.tb_stands.specs.Restricted.{is_kept, nearest, raised, restricted}
-use Rattle.tb_stands.specs.Stands.{IsBare, IsCover, MayMiss, StandsBy}
+use Rattle.tb_stands.specs.Stands.{MayMiss, StandsBy}
 use Rattle.tb_stands.proofs.Lists.{filter_changed, map_some}
 use Rattle.tb_stands.proofs.Table.{covers_guard}
 use Rattle.tb_stands.proofs.Below.{is_below-kept}

@@ -1,11 +1,11 @@
 -- The path to the root among the kept rows is the kept part of the path among all.
-use Rattle.std.proofs.Common.{◌≡◌, ◌∙◌, ◌≢◌, ◌||◌, ℕ, ◌<◌, Bool, true, false, cond, List, [], ◌∷◌, reverse, refl, ap, sym, subst, arith, Option, Some, None, find, ◌==◌}
+use Rattle.std.proofs.Common.{◌≡◌, ◌∙◌, ◌||◌, ℕ, ◌<◌, Bool, true, false, cond, List, [], ◌∷◌, reverse, refl, ap, sym, subst, arith, Option, Some, None, find, ◌==◌}
 use Rattle.std.specs.Prelude.{option_map, is_some}
 use Rattle.std.specs.List.{list_any, AllByRecursion}
-use Rattle.std.proofs.lemmas.Bool.{eqb-true, eq-eqb, ne_eqb, or_left}
+use Rattle.std.proofs.lemmas.Bool.{eqb-true, eq-eqb, ne_eqb}
 use Rattle.std.proofs.lemmas.Option.{same_Some}
 use Rattle.tb_perm.specs.Rows.{Row, is_tag, is_asked, HasTag, IsGrown, IsRows, path_from, path_to_root, is_on_path}
-use Rattle.tb_perm.proofs.Kept.{HasTag-reverse, list_any-reverse_aux}
+use Rattle.tb_perm.proofs.Kept.{list_any-reverse_aux}
 use Rattle.tb_perm.proofs.Found.{found_tag}
 use Rattle.tb_perm.proofs.Removed.{below_tag}
 use Rattle.tb_perm.proofs.Unique.{AllByRecursion-path_from}

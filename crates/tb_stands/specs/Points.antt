@@ -1,5 +1,5 @@
 -- That own rows stand for eager rows, point by point and of the two lists alone.
-use Rattle.std.specs.Prelude.{◌≡◌, ◌⊎◌, ℕ, Bool, true, false, List, reverse, find, Option, Some}
+use Rattle.std.specs.Prelude.{◌≡◌, ◌⊎◌, ℕ, Bool, true, false, List, reverse, find, Some}
 use Rattle.std.specs.List.{list_any, AllByRecursion}
 use Rattle.tb_perm.specs.declared.perm.Guard.TheVariants.{Free}
 use Rattle.tb_perm.specs.Rows.{Row, is_tag, HasTag, IsRows, guard_in}

@@ -2,7 +2,6 @@ use Rattle.std.proofs.Common.{◌≡◌}
 use Rattle.tb_perm.specs.Rows.{HasTag}
 use Rattle.tb_perm.specs.Calls.{IsTree}
 use Rattle.tb_prune.specs.Rounds.{Decided}
-use Rattle.tb_prune.specs.Guards.{GuardsAre}
 use Rattle.tb_prune.proofs.pruned.prune_tree.Given as goal
 
 abbrev pub invariant-loop-next : goal.invariant-loop-next

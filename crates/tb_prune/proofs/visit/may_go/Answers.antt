@@ -1,4 +1,3 @@
-use Rattle.std.proofs.Common.{rules, inl, inr}
 use Rattle.tb_prune.proofs.Children.{child_has, may_not}
 use Rattle.tb_prune.proofs.visit.may_go.Goals as goal
 

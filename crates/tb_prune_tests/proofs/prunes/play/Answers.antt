@@ -1,4 +1,3 @@
-use Rattle.std.proofs.Common.{rules}
 use Rattle.tb_perm.specs.Access.{access_event}
 use Rattle.tb_prune_tests.proofs.Ready.{on_ok, ready_event, ready_pruned}
 use Rattle.tb_prune_tests.proofs.prunes.play.Goals as goal
