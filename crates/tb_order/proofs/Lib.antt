@@ -1,0 +1,3 @@
+pub mod Sets
+pub mod Orders
+pub mod Reaching
