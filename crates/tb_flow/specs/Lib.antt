@@ -1,0 +1,4 @@
+pub mod Flows
+pub mod Questions
+pub mod Summaries
+pub mod Laws

@@ -1,0 +1,4 @@
+pub mod Copies
+pub mod Orders
+pub mod Least
+pub mod Ordered
