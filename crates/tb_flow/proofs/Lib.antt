@@ -5,3 +5,4 @@ pub mod Effects
 pub mod Sound
 pub mod Complete
 pub mod Firsts
+pub mod Idle

@@ -1,6 +1,7 @@
 //! A summary of all ways through a piece of code.
 
-ghost use Rattle.std.specs.Prelude.{◌≡◌, None};
+ghost use Rattle.std.specs.Prelude.{◌≡◌, true, None};
+ghost use Rattle.tb_flow.specs.declared.mark.Mark.TheVariants.{Kept};
 ghost use Rattle.tb_flow.specs.Summaries.{marked, used, part_moved, breaking, continuing, stopping, earlier, where_true, either_of, after, then_of, at_head, in_body, loop_of};
 
 use crate::mark::{Mark, Marks};
@@ -119,15 +120,28 @@ impl Summary {
     }
 
     /// Of this piece and then another.
-    #[tactic(auto, unfolding(crate::specs::Summaries::then_of))]
+    #[tactic(auto, using(crate::proofs::Idle::then_idle, crate::proofs::Idle::idle_then), unfolding(crate::specs::Summaries::then_of))]
     pub fn then(self, later: Summary) -> Summary
         ensures { result ≡ then_of self later }
     {
+        if later.is_idle() {
+            return self;
+        }
+        if self.is_idle() {
+            return later;
+        }
         let first = Summary {
             next: Marks::none(),
             ..self
         };
         first.either(later.after(self.next))
+    }
+
+    /// Whether it is that of a piece in which nothing happens.
+    fn is_idle(self) -> bool
+        ensures { result ≡ true → self ≡ marked Kept }
+    {
+        self == Summary::marked(Mark::Kept)
     }
 
     /// Of a loop: before each turn its head is gone through, where it may end if it `leaves`, and then

@@ -65,19 +65,19 @@ fn part_fault(types: &Types, function: &Function) -> Option<MoveError>
     }
 }
 
-/// The first fault of the uses of a variable.
+/// The first fault of the uses of a variable. Where none lacks a value none was moved, since behind a move
+/// there is no value.
 fn variable_fault(types: &Types, function: &Function, variable: usize) -> Option<MoveError>
     ensures { result ≡ variable_fault types.now function.now variable }
 {
-    let missing = match yes_at(types, function, Question::NoValue, variable) {
-        Some(span) => Some(MoveError::NotInitialised(span)),
-        None => None,
+    let Some(missing) = yes_at(types, function, Question::NoValue, variable) else {
+        return None;
     };
     let moved = match yes_at(types, function, Question::AfterMove, variable) {
         Some(span) => Some(MoveError::UsedAfterMove(span)),
         None => None,
     };
-    earliest(missing, moved)
+    earliest(Some(MoveError::NotInitialised(missing)), moved)
 }
 
 /// The first use of a variable at which the answer is yes on some way.
