@@ -106,7 +106,7 @@ module _ (v : ℕ) (H : Summary) (leaves : Bool) (B : Summary) where
   again end t Yes turn h = h
   again end t No turn h = h
 
-  back_has : (back : End) (j : Mark) → IsBack back → Allows v B back j → has j (joined B.next B.continued) ≡ true
+  pub back_has : (back : End) (j : Mark) → IsBack back → Allows v B back j → has j (joined B.next B.continued) ≡ true
   back_has Next j is h = has_left B.next B.continued j h
   back_has Continued j is h = has_right B.next B.continued j h
   back_has Broke j is h = absurd is

@@ -17,7 +17,7 @@ effect_append question v (e ∷ es) fs =
     ap (λ m. over (mark_of question v e) m) (effect_append question v es fs)
     ∙ sym (over_assoc (mark_of question v e) (effect question v es) (effect question v fs))
 
-answer_over : (a b : Mark) (now : Bool) → marked_answer b (marked_answer a now) ≡ marked_answer (over a b) now
+pub answer_over : (a b : Mark) (now : Bool) → marked_answer b (marked_answer a now) ≡ marked_answer (over a b) now
 answer_over a Kept now = refl
 answer_over a Yes now = refl
 answer_over a No now = refl

@@ -6,3 +6,5 @@ pub mod Sound
 pub mod Complete
 pub mod Firsts
 pub mod Idle
+pub mod AllWays
+pub mod Least

@@ -112,14 +112,14 @@ module _ (question : Question) (v : ℕ) (head : Flow) (leaves : Bool) (body : F
   abbrev Rounds : Mark → Type 0
   Rounds m = (es : List Event) × ((gs : List Event) (end : End) → Way (Loop head leaves body) gs end → Way (Loop head leaves body) (es ++ gs) end) × (effect question v es ≡ m)
 
-  backs : (j : Mark) → has j (joined B.next B.continued) ≡ true → (back : End) × IsBack back × Reaches question v body back j
+  pub backs : (j : Mark) → has j (joined B.next B.continued) ≡ true → (back : End) × IsBack back × Reaches question v body back j
   backs j h =
       elim (joined_has B.next B.continued j h) [
         | inl k ↦ (Next, tt, bodies Next j k)
         | inr k ↦ (Continued, tt, bodies Continued j k)
       ]
 
-  rounds : (m : Mark) → has m (turned H B) ≡ true → Rounds m
+  pub rounds : (m : Mark) → has m (turned H B) ≡ true → Rounds m
   rounds m h =
       elim (joined_has (only Kept) (followed H.next (joined B.next B.continued)) m h) [
         | inl k ↦ ([], λ gs end way. way, sym (only_is m Kept k))

@@ -1,4 +1,5 @@
 pub mod Flows
 pub mod Questions
 pub mod Summaries
+pub mod Equations
 pub mod Laws

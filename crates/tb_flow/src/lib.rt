@@ -6,6 +6,6 @@ mod laws;
 mod mark;
 mod summary;
 
-pub use laws::law_summaries;
+pub use laws::{law_sets, law_summaries};
 pub use mark::{Mark, Marks, Question};
 pub use summary::Summary;
