@@ -1,13 +1,13 @@
 -- Whatever sets meet the equations have the answers of all ways.
-use Rattle.std.proofs.Common.{◌≡◌, ◌∙◌, ◌⊎◌, ◌||◌, ℕ, Bool, true, false, List, [], ◌∷◌, ◌++◌, refl, ap, sym, subst, inl, inr}
+use Rattle.std.proofs.Common.{◌≡◌, ◌∙◌, ◌⊎◌, ℕ, Bool, true, false, List, [], ◌∷◌, ◌++◌, refl, ap, sym, subst, inl, inr}
 use Rattle.std.proofs.lemmas.Bool.{or_left, or_right, or_cases, false≢true}
 use Rattle.tb_perm.specs.declared.span.Span.{Span}
 use Rattle.tb_flow.specs.declared.mark.Question.{Question}
 use Rattle.tb_flow.specs.declared.mark.Mark.{Mark}
 use Rattle.tb_flow.specs.declared.mark.Mark.TheVariants.{Kept, Yes, No}
-use Rattle.tb_flow.specs.Flows.{Event, Flow, Nothing, Does, Uses, Part, Then, Either, Loop, Break, Continue, Stop, End, Next, Broke, Continued, At, IsAway, IsBack, Way, Idle, Happens, Comes, Passes, Parts, First, Both, One, Other, Breaks, Continues, InHead, Ends, Leaves, InBody, Turns}
+use Rattle.tb_flow.specs.Flows.{Event, Flow, Loop, End, Next, Broke, Continued, At, IsAway, IsBack, Way, Idle, Happens, Comes, Passes, Parts, First, Both, One, Other, Breaks, Continues, InHead, Ends, Leaves, InBody, Turns}
 use Rattle.tb_flow.specs.Questions.{mark_of, marked_answer, answer_behind}
-use Rattle.tb_flow.specs.Equations.{Answers, no_answer, holds, union, possible_if, behind_mark, UseSet, Sets, passing, Meets, HasUse, IsPossible, Leads}
+use Rattle.tb_flow.specs.Equations.{Answers, no_answer, holds, union, possible_if, behind_mark, UseSet, Sets, Meets, HasUse, IsPossible, Leads}
 
 -- Sets of answers.
 
@@ -58,7 +58,7 @@ use_right (u ∷ us) vs w span x h = inr (use_right us vs w span x h)
 pub use_cases : (us vs : List UseSet) (w : ℕ) (span : Span) (x : Bool) → HasUse (us ++ vs) w span x → HasUse us w span x ⊎ HasUse vs w span x
 use_cases [] vs w span x h = inr h
 use_cases (u ∷ us) vs w span x (inl h) = inl (inl h)
-use_cases (u ∷ us) vs w span x (inr h) = elim (use_cases us vs w span x h) [ | inl k ↦ inl (inr k) | inr k ↦ inr k ]
+use_cases (u ∷ us) vs w span x (inr h) = elim (use_cases us vs w span x h) [ inl k ↦ inl (inr k) | inr k ↦ inr k ]
 
 -- Sets of two pieces.
 
@@ -177,7 +177,7 @@ all_ways question v _ _ _ (Turns head leaves body es fs gs back end way next is 
     let second : IsPossible meets.2 back turned = all_ways question v body fs back next meets.1.behind meets.2 middle meets.4 first in
     let here : holds turned meets.0 ≡ true = subst (λ s. holds turned s ≡ true) (sym meets.5) (back_holds back turned a meets.2 is second) in
     let once : Meets question v (Loop head leaves body) meets.0 sets =
-        (meets.0, meets.1, meets.2, meets.3, meets.4, again_same a (union meets.2.behind meets.2.continued) meets.0 meets.5, meets.6) in
+    (meets.0, meets.1, meets.2, meets.3, meets.4, again_same a (union meets.2.behind meets.2.continued) meets.0 meets.5, meets.6) in
     subst (λ z. IsPossible sets end z) (sym (behind_append question v now (es ++ fs) gs ∙ ap (λ z. answer_behind question v z gs) (behind_append question v now es fs)))
     (all_ways question v (Loop head leaves body) gs end more meets.0 sets turned once here)
 

@@ -1,5 +1,5 @@
 -- Each way is allowed by the summary of its piece.
-use Rattle.std.proofs.Common.{◌≡◌, ◌∙◌, ◌⊎◌, ℕ, Bool, true, false, List, [], ◌∷◌, ◌++◌, Option, Some, None, ◌==◌, refl, ap, sym, subst, inl, inr, arith}
+use Rattle.std.proofs.Common.{◌≡◌, ◌∙◌, ◌⊎◌, ℕ, Bool, true, false, List, ◌++◌, ◌==◌, refl, ap, sym, subst, inl, inr, arith}
 use Rattle.std.proofs.lemmas.Bool.{eq-eqb, and_parts}
 use Rattle.tb_perm.specs.declared.span.Span.{Span}
 use Rattle.tb_flow.specs.declared.mark.Question.{Question}
@@ -7,11 +7,11 @@ use Rattle.tb_flow.specs.declared.mark.Mark.{Mark}
 use Rattle.tb_flow.specs.declared.mark.Mark.TheVariants.{Kept, Yes, No}
 use Rattle.tb_flow.specs.declared.mark.Marks.{Marks}
 use Rattle.tb_flow.specs.declared.summary.Summary.{Summary}
-use Rattle.tb_flow.specs.Flows.{Event, Flow, Nothing, Does, Uses, Part, Then, Either, Loop, Break, Continue, Stop, End, Next, Broke, Continued, At, IsAway, IsBack, Way, Idle, Happens, Comes, Passes, Parts, First, Both, One, Other, Breaks, Continues, InHead, Ends, Leaves, InBody, Turns}
+use Rattle.tb_flow.specs.Flows.{Event, Flow, Then, Loop, End, Next, Broke, Continued, At, IsAway, IsBack, Way, Idle, Happens, Comes, Passes, Parts, First, Both, One, Other, Breaks, Continues, InHead, Ends, Leaves, InBody, Turns}
 use Rattle.tb_flow.specs.Questions.{mark_of}
 use Rattle.tb_flow.specs.Summaries.{no_marks, only, joined, followed, either_of, after, then_of, turned, at_head, in_body, ended, loop_of, use_of, summary_of}
 use Rattle.tb_flow.proofs.Sets.{over, has, over_kept, has_none, has_only, has_left, has_right, joined_has, has_followed, followed_kept}
-use Rattle.tb_flow.proofs.Places.{NotAfter, earlier_left, earlier_right, earlier_cases, where_parts}
+use Rattle.tb_flow.proofs.Places.{NotAfter, earlier_cases, where_parts}
 use Rattle.tb_flow.proofs.Found.{Allows, allows_left, allows_right, allows_after, allows_away, away}
 use Rattle.tb_flow.proofs.Effects.{effect, effect_append}
 
@@ -162,7 +162,7 @@ complete question v _ _ _ (InBody head leaves body es fs w span way next) =
     (loop_in_body v (summary_of question v head) leaves (summary_of question v body) w span (effect question v es) (effect question v fs) (complete question v head es Next way) (complete question v body fs (At w span) next))
 complete question v _ _ _ (Turns head leaves body es fs gs back end way next is more) =
     let twice : effect question v ((es ++ fs) ++ gs) ≡ over (over (effect question v es) (effect question v fs)) (effect question v gs) =
-        effect_append question v (es ++ fs) gs ∙ ap (λ m. over m (effect question v gs)) (effect_append question v es fs) in
+    effect_append question v (es ++ fs) gs ∙ ap (λ m. over m (effect question v gs)) (effect_append question v es fs) in
     subst (λ m. Allows v (summary_of question v (Loop head leaves body)) end m) (sym twice)
     (loop_turns v (summary_of question v head) leaves (summary_of question v body) back end (effect question v es) (effect question v fs) (effect question v gs) is
     (complete question v head es Next way) (complete question v body fs back next) (complete question v (Loop head leaves body) gs end more))

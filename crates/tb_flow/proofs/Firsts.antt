@@ -1,19 +1,18 @@
 -- A summary has the first use with the answer yes, and the first move out of a part.
-use Rattle.std.proofs.Common.{◌≡◌, ◌∙◌, ◌⊎◌, ◌≤◌, ℕ, Bool, true, false, List, Option, Some, None, ◌==◌, refl, ap, sym, subst, inl, inr, arith}
+use Rattle.std.proofs.Common.{◌≡◌, ◌∙◌, ℕ, Bool, true, false, Option, Some, None, ◌==◌, refl, ap, sym, subst, arith}
 use Rattle.std.proofs.lemmas.Bool.{false≢true}
 use Rattle.tb_perm.specs.declared.span.Span.{Span}
 use Rattle.tb_flow.specs.declared.mark.Question.{Question}
 use Rattle.tb_flow.specs.declared.mark.Mark.{Mark}
 use Rattle.tb_flow.specs.declared.mark.Mark.TheVariants.{Kept, Yes, No}
-use Rattle.tb_flow.specs.declared.summary.Summary.{Summary}
-use Rattle.tb_flow.specs.Flows.{Event, Flow, Nothing, Does, Uses, Part, Then, Either, Loop, Break, Continue, Stop, At, Way, HasPart}
-use Rattle.tb_flow.specs.Questions.{marked_answer, answer_behind, IsYesAt}
+use Rattle.tb_flow.specs.Flows.{Flow, Nothing, Does, Uses, Part, Then, Either, Loop, Break, Continue, Stop, At, HasPart}
+use Rattle.tb_flow.specs.Questions.{marked_answer, IsYesAt}
 use Rattle.tb_flow.specs.Summaries.{loop_of, then_of, either_of, after, use_of, summary_of, given, yes_in}
 use Rattle.tb_flow.specs.Laws.{IsFirst}
-use Rattle.tb_flow.proofs.Sets.{over, has, has_only, only_is}
+use Rattle.tb_flow.proofs.Sets.{over, has, only_is}
 use Rattle.tb_flow.proofs.Places.{NotAfter, first_earlier}
 use Rattle.tb_flow.proofs.Found.{Allows, found_after, allows_after}
-use Rattle.tb_flow.proofs.Effects.{effect, answer_effect, Reaches}
+use Rattle.tb_flow.proofs.Effects.{effect, answer_effect}
 use Rattle.tb_flow.proofs.Sound.{sound}
 use Rattle.tb_flow.proofs.Complete.{complete}
 
@@ -55,7 +54,7 @@ module _ (question : Question) (v : ℕ) (now : Bool) (flow : Flow) where
       let m : Mark = effect question v h.0 in
       let yes : over (mark_given now) m ≡ Yes = after_yes now m (sym (answer_effect question v now h.0) ∙ h.2) in
       let allowed : Allows v (after (given now) (summary_of question v flow)) (At v span) (over (mark_given now) m) =
-          allows_after v (given now) (summary_of question v flow) (At v span) (mark_given now) m (is_given now) (complete question v flow h.0 (At v span) h.1) in
+      allows_after v (given now) (summary_of question v flow) (At v span) (mark_given now) m (is_given now) (complete question v flow h.0 (At v span) h.1) in
       let at_yes : Allows v (after (given now) (summary_of question v flow)) (At v span) Yes = subst (λ x. Allows v (after (given now) (summary_of question v flow)) (At v span) x) yes allowed in
       at_yes refl
 

@@ -1,14 +1,13 @@
 -- What a summary says of an end and a mark, for each way of making one.
-use Rattle.std.proofs.Common.{◌≡◌, ◌⊎◌, ℕ, Bool, true, false, Option, Some, None, refl, sym, subst, inl, inr}
+use Rattle.std.proofs.Common.{◌≡◌, ◌⊎◌, ℕ, true, Some, None, refl, sym, subst, inl, inr}
 use Rattle.std.specs.Prelude.{⊤}
-use Rattle.tb_perm.specs.declared.span.Span.{Span}
 use Rattle.tb_flow.specs.declared.mark.Mark.{Mark}
 use Rattle.tb_flow.specs.declared.mark.Mark.TheVariants.{Kept, Yes, No}
 use Rattle.tb_flow.specs.declared.mark.Marks.{Marks}
 use Rattle.tb_flow.specs.declared.summary.Summary.{Summary}
 use Rattle.tb_flow.specs.Flows.{End, Next, Broke, Continued, At, IsAway}
-use Rattle.tb_flow.specs.Summaries.{no_marks, only, some_way, where_true, marked, either_of, after}
-use Rattle.tb_flow.proofs.Sets.{over, has, has_none, has_only, only_is, some_has, has_some, has_left, has_right, joined_has, has_followed, followed_has}
+use Rattle.tb_flow.specs.Summaries.{no_marks, some_way, where_true, marked, either_of, after}
+use Rattle.tb_flow.proofs.Sets.{over, has, has_none, only_is, some_has, has_some, has_left, has_right, joined_has, has_followed, followed_has}
 use Rattle.tb_flow.proofs.Places.{NotAfter, earlier_is, earlier_left, earlier_right, where_is, where_from}
 
 -- it says that some way is so

@@ -1,5 +1,5 @@
 -- Some sets that meet the equations have no other answers than those of ways.
-use Rattle.std.proofs.Common.{◌≡◌, ◌∙◌, ◌⊎◌, ◌&&◌, ◌||◌, ℕ, Bool, true, false, List, [], ◌∷◌, ◌++◌, refl, ap, sym, subst, inl, inr}
+use Rattle.std.proofs.Common.{◌≡◌, ◌∙◌, ◌&&◌, ◌||◌, ℕ, Bool, true, false, List, [], ◌∷◌, ◌++◌, refl, ap, sym, subst, inl, inr}
 use Rattle.std.proofs.lemmas.Bool.{and_from, and_parts, or_left, or_right, or_cases, false≢true}
 use Rattle.tb_perm.specs.declared.span.Span.{Span}
 use Rattle.tb_flow.specs.declared.mark.Question.{Question}
@@ -7,15 +7,15 @@ use Rattle.tb_flow.specs.declared.mark.Mark.{Mark}
 use Rattle.tb_flow.specs.declared.mark.Mark.TheVariants.{Kept, Yes, No}
 use Rattle.tb_flow.specs.declared.mark.Marks.{Marks}
 use Rattle.tb_flow.specs.declared.summary.Summary.{Summary}
-use Rattle.tb_flow.specs.Flows.{Event, Flow, Nothing, Does, Uses, Part, Then, Either, Loop, Break, Continue, Stop, End, Next, Broke, Continued, At, IsAway, IsBack, Way, Idle, Happens, Comes, Passes, Parts, First, Both, One, Other, Breaks, Continues, InHead, Ends, Leaves, InBody, Turns}
+use Rattle.tb_flow.specs.Flows.{Event, Flow, Nothing, Does, Uses, Part, Then, Either, Loop, Break, Continue, Stop, End, Next, Broke, Continued, At, IsAway, IsBack, Way, Idle, Happens, Comes, Passes, Parts, First, Both, One, Other, Breaks, Continues, InHead, Ends, Leaves, InBody}
 use Rattle.tb_flow.specs.Questions.{mark_of, marked_answer, answer_behind}
 use Rattle.tb_flow.specs.Summaries.{only, joined, followed, turned, summary_of}
-use Rattle.tb_flow.specs.Equations.{Answers, no_answer, holds, union, possible_if, behind_mark, UseSet, Sets, passing, Meets, HasUse, IsPossible, Leads}
-use Rattle.tb_flow.proofs.Sets.{over, has, has_left, has_right, only_is, joined_has, has_followed, followed_has}
-use Rattle.tb_flow.proofs.Effects.{effect, effect_append, answer_effect, answer_over, Reaches}
+use Rattle.tb_flow.specs.Equations.{Answers, no_answer, holds, union, possible_if, behind_mark, Sets, passing, Meets, IsPossible, Leads}
+use Rattle.tb_flow.proofs.Sets.{over, has, has_right, only_is, joined_has, has_followed, followed_has}
+use Rattle.tb_flow.proofs.Effects.{effect, answer_effect, answer_over}
 use Rattle.tb_flow.proofs.Sound.{sound, backs, rounds}
 use Rattle.tb_flow.proofs.Complete.{complete, back_has}
-use Rattle.tb_flow.proofs.AllWays.{union_left, union_right, union_cases, none_holds, same_answers, use_cases, both, beside, around, back_holds, behind_append, all_ways}
+use Rattle.tb_flow.proofs.AllWays.{union_left, union_cases, none_holds, same_answers, use_cases, both, beside, around, back_holds, behind_append, all_ways}
 
 -- they have no others
 abbrev pub Only : Question → ℕ → Flow → Answers → Sets → Type 0
@@ -32,10 +32,10 @@ only_passing question v flow a b next (At w span) x h = absurd h
 
 mark_from : (m : Mark) (x : Bool) (a : Answers) → holds x (behind_mark m a) ≡ true → (now : Bool) × (holds now a ≡ true) × (marked_answer m now ≡ x)
 mark_from Kept x a h = (x, h, refl)
-mark_from Yes true a h = elim (or_cases a.is_yes a.is_no h) [ | inl k ↦ (true, k, refl) | inr k ↦ (false, k, refl) ]
+mark_from Yes true a h = elim (or_cases a.is_yes a.is_no h) [ inl k ↦ (true, k, refl) | inr k ↦ (false, k, refl) ]
 mark_from Yes false a h = absurd (false≢true h)
 mark_from No true a h = absurd (false≢true h)
-mark_from No false a h = elim (or_cases a.is_yes a.is_no h) [ | inl k ↦ (true, k, refl) | inr k ↦ (false, k, refl) ]
+mark_from No false a h = elim (or_cases a.is_yes a.is_no h) [ inl k ↦ (true, k, refl) | inr k ↦ (false, k, refl) ]
 
 only_does : (question : Question) (v : ℕ) (event : Event) (a : Answers) → Only question v (Does event) a (passing (behind_mark (mark_of question v event) a))
 only_does question v event a =
@@ -74,9 +74,9 @@ module _ (question : Question) (v : ℕ) (x y : Flow) (a : Answers) (first secon
 
   only_both : Only question v y first.behind second → Only question v (Then x y) a (both first second)
   only_both two Next z h = lead_both Next z (two Next z h)
-  only_both two Broke z h = elim (union_cases z first.broke second.broke h) [ | inl k ↦ lead_first Broke z tt k | inr k ↦ lead_both Broke z (two Broke z k) ]
-  only_both two Continued z h = elim (union_cases z first.continued second.continued h) [ | inl k ↦ lead_first Continued z tt k | inr k ↦ lead_both Continued z (two Continued z k) ]
-  only_both two (At w span) z h = elim (use_cases first.uses second.uses w span z h) [ | inl k ↦ lead_first (At w span) z tt k | inr k ↦ lead_both (At w span) z (two (At w span) z k) ]
+  only_both two Broke z h = elim (union_cases z first.broke second.broke h) [ inl k ↦ lead_first Broke z tt k | inr k ↦ lead_both Broke z (two Broke z k) ]
+  only_both two Continued z h = elim (union_cases z first.continued second.continued h) [ inl k ↦ lead_first Continued z tt k | inr k ↦ lead_both Continued z (two Continued z k) ]
+  only_both two (At w span) z h = elim (use_cases first.uses second.uses w span z h) [ inl k ↦ lead_first (At w span) z tt k | inr k ↦ lead_both (At w span) z (two (At w span) z k) ]
 
   lead_one : (end : End) (z : Bool) → IsPossible first end z → Leads question v (Either x y) a end z
   lead_one end z h = let l = one end z h in (l.0, l.1, l.2, One x y l.1 end l.3, l.4)
@@ -85,10 +85,10 @@ module _ (question : Question) (v : ℕ) (x y : Flow) (a : Answers) (first secon
   lead_other two end z h = let l = two end z h in (l.0, l.1, l.2, Other x y l.1 end l.3, l.4)
 
   only_beside : Only question v y a second → Only question v (Either x y) a (beside first second)
-  only_beside two Next z h = elim (union_cases z first.behind second.behind h) [ | inl k ↦ lead_one Next z k | inr k ↦ lead_other two Next z k ]
-  only_beside two Broke z h = elim (union_cases z first.broke second.broke h) [ | inl k ↦ lead_one Broke z k | inr k ↦ lead_other two Broke z k ]
-  only_beside two Continued z h = elim (union_cases z first.continued second.continued h) [ | inl k ↦ lead_one Continued z k | inr k ↦ lead_other two Continued z k ]
-  only_beside two (At w span) z h = elim (use_cases first.uses second.uses w span z h) [ | inl k ↦ lead_one (At w span) z k | inr k ↦ lead_other two (At w span) z k ]
+  only_beside two Next z h = elim (union_cases z first.behind second.behind h) [ inl k ↦ lead_one Next z k | inr k ↦ lead_other two Next z k ]
+  only_beside two Broke z h = elim (union_cases z first.broke second.broke h) [ inl k ↦ lead_one Broke z k | inr k ↦ lead_other two Broke z k ]
+  only_beside two Continued z h = elim (union_cases z first.continued second.continued h) [ inl k ↦ lead_one Continued z k | inr k ↦ lead_other two Continued z k ]
+  only_beside two (At w span) z h = elim (use_cases first.uses second.uses w span z h) [ inl k ↦ lead_one (At w span) z k | inr k ↦ lead_other two (At w span) z k ]
 
 -- what is possible behind ways with these marks
 abbrev possible : Marks → Answers → Answers
@@ -111,12 +111,12 @@ possible_from : (m : Marks) (a : Answers) (x : Bool) → holds x (possible m a) 
 possible_from m a true h =
     elim (or_cases (m.kept && a.is_yes) (m.yes && (a.is_yes || a.is_no)) h) [
       | inl k ↦ let p = and_parts m.kept a.is_yes k in (true, Kept, p.1, p.0, refl)
-      | inr k ↦ let p = and_parts m.yes (a.is_yes || a.is_no) k in elim (or_cases a.is_yes a.is_no p.1) [ | inl l ↦ (true, Yes, l, p.0, refl) | inr l ↦ (false, Yes, l, p.0, refl) ]
+      | inr k ↦ let p = and_parts m.yes (a.is_yes || a.is_no) k in elim (or_cases a.is_yes a.is_no p.1) [ inl l ↦ (true, Yes, l, p.0, refl) | inr l ↦ (false, Yes, l, p.0, refl) ]
     ]
 possible_from m a false h =
     elim (or_cases (m.kept && a.is_no) (m.no && (a.is_yes || a.is_no)) h) [
       | inl k ↦ let p = and_parts m.kept a.is_no k in (false, Kept, p.1, p.0, refl)
-      | inr k ↦ let p = and_parts m.no (a.is_yes || a.is_no) k in elim (or_cases a.is_yes a.is_no p.1) [ | inl l ↦ (true, No, l, p.0, refl) | inr l ↦ (false, No, l, p.0, refl) ]
+      | inr k ↦ let p = and_parts m.no (a.is_yes || a.is_no) k in elim (or_cases a.is_yes a.is_no p.1) [ inl l ↦ (true, No, l, p.0, refl) | inr l ↦ (false, No, l, p.0, refl) ]
     ]
 
 module _ (question : Question) (v : ℕ) (head : Flow) (leaves : Bool) (body : Flow) (a : Answers) where
@@ -157,12 +157,12 @@ module _ (question : Question) (v : ℕ) (head : Flow) (leaves : Bool) (body : F
               let middle = all_ways question v head r.0 Next r.1 top first p.0 meets_head start in
               let end = all_ways question v body t.0 s.0 t.1 first.behind second (answer_behind question v p.0 r.0) meets_body middle in
               let same : answer_behind question v (answer_behind question v p.0 r.0) t.0 ≡ x =
-                  answer_effect question v (answer_behind question v p.0 r.0) t.0
-                  ∙ ap (λ m. marked_answer m (answer_behind question v p.0 r.0)) t.2
-                  ∙ ap (λ z. marked_answer l.1 z) (answer_effect question v p.0 r.0 ∙ ap (λ m. marked_answer m p.0) r.2)
-                  ∙ answer_over l.0 l.1 p.0
-                  ∙ ap (λ m. marked_answer m p.0) l.4
-                  ∙ p.4 in
+              answer_effect question v (answer_behind question v p.0 r.0) t.0
+              ∙ ap (λ m. marked_answer m (answer_behind question v p.0 r.0)) t.2
+              ∙ ap (λ z. marked_answer l.1 z) (answer_effect question v p.0 r.0 ∙ ap (λ m. marked_answer m p.0) r.2)
+              ∙ answer_over l.0 l.1 p.0
+              ∙ ap (λ m. marked_answer m p.0) l.4
+              ∙ p.4 in
               subst (λ z. holds z (union a (union second.behind second.continued)) ≡ true) same (back_holds s.0 (answer_behind question v (answer_behind question v p.0 r.0) t.0) a second s.1 end)
         ]
 
@@ -174,21 +174,21 @@ module _ (question : Question) (v : ℕ) (head : Flow) (leaves : Bool) (body : F
         let i : Mark = effect question v r.1 in
         let j : Mark = effect question v l.1 in
         let turn : has (over i j) (followed H.next (joined B.next B.continued)) ≡ true =
-            has_followed H.next (joined B.next B.continued) i j (complete question v head r.1 Next r.3) (back_has v H leaves B back j is (complete question v body l.1 back l.3)) in
+        has_followed H.next (joined B.next B.continued) i j (complete question v head r.1 Next r.3) (back_has v H leaves B back j is (complete question v body l.1 back l.3)) in
         let same : marked_answer (over p.1 (over i j)) p.0 ≡ x =
-            sym (answer_over p.1 (over i j) p.0)
-            ∙ ap (λ z. marked_answer (over i j) z) p.4
-            ∙ sym (answer_over i j r.0)
-            ∙ ap (λ z. marked_answer j z) (sym (answer_effect question v r.0 r.1) ∙ r.4)
-            ∙ sym (answer_effect question v l.0 l.1)
-            ∙ l.4 in
+        sym (answer_over p.1 (over i j) p.0)
+        ∙ ap (λ z. marked_answer (over i j) z) p.4
+        ∙ sym (answer_over i j r.0)
+        ∙ ap (λ z. marked_answer j z) (sym (answer_effect question v r.0 r.1) ∙ r.4)
+        ∙ sym (answer_effect question v l.0 l.1)
+        ∙ l.4 in
         subst (λ z. holds z top ≡ true) same (possible_has T a (over p.1 (over i j)) p.0 (one_more p.1 (over i j) p.3 turn) p.2)
 
     head_from : (x : Bool) → holds x (union a (union second.behind second.continued)) ≡ true → holds x top ≡ true
     head_from x h =
         elim (union_cases x a (union second.behind second.continued) h) [
           | inl k ↦ possible_has T a Kept x refl k
-          | inr k ↦ elim (union_cases x second.behind second.continued k) [ | inl l ↦ turn_back Next x tt l | inr l ↦ turn_back Continued x tt l ]
+          | inr k ↦ elim (union_cases x second.behind second.continued k) [ inl l ↦ turn_back Next x tt l | inr l ↦ turn_back Continued x tt l ]
         ]
 
     head_equation : top ≡ union a (union second.behind second.continued)
@@ -224,10 +224,10 @@ module _ (question : Question) (v : ℕ) (head : Flow) (leaves : Bool) (body : F
         lead_turns r.0 (r.1 ++ l.1) (At w span) x r.2 (InBody head leaves body r.1 l.1 w span r.3 l.3) (behind_append question v r.0 r.1 l.1 ∙ ap (λ z. answer_behind question v z l.1) r.4 ∙ l.4)
 
     only_around : Only question v (Loop head leaves body) a (around leaves first second)
-    only_around Next x h = elim (union_cases x (possible_if leaves first.behind) second.broke h) [ | inl k ↦ lead_ended leaves refl x k | inr k ↦ lead_broke x k ]
+    only_around Next x h = elim (union_cases x (possible_if leaves first.behind) second.broke h) [ inl k ↦ lead_ended leaves refl x k | inr k ↦ lead_broke x k ]
     only_around Broke x h = lead_head Broke x tt h
     only_around Continued x h = lead_head Continued x tt h
-    only_around (At w span) x h = elim (use_cases first.uses second.uses w span x h) [ | inl k ↦ lead_head (At w span) x tt k | inr k ↦ lead_use w span x k ]
+    only_around (At w span) x h = elim (use_cases first.uses second.uses w span x h) [ inl k ↦ lead_head (At w span) x tt k | inr k ↦ lead_use w span x k ]
 
     solved_loop : Solved question v (Loop head leaves body) a
     solved_loop = (around leaves first second, (top, first, second, meets_head, meets_body, head_equation, refl), only_around)

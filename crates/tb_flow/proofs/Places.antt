@@ -62,15 +62,15 @@ where_from false x s h k = absurd (false≢true h)
 
 -- the first of two is the first with either
 pub first_earlier : (P Q : Span → Type 0) (x y : Option Span) → IsFirst P x → IsFirst Q y → IsFirst (λ s. P s ⊎ Q s) (earlier x y)
-first_earlier P Q None None p q = λ s h. elim h [ | inl k ↦ p s k | inr k ↦ q s k ]
-first_earlier P Q None (Some b) p q = (inr q.0, λ s h. elim h [ | inl k ↦ absurd (p s k) | inr k ↦ q.1 s k ])
-first_earlier P Q (Some a) None p q = (inl p.0, λ s h. elim h [ | inl k ↦ p.1 s k | inr k ↦ absurd (q s k) ])
+first_earlier P Q None None p q = λ s h. elim h [ inl k ↦ p s k | inr k ↦ q s k ]
+first_earlier P Q None (Some b) p q = (inr q.0, λ s h. elim h [ inl k ↦ absurd (p s k) | inr k ↦ q.1 s k ])
+first_earlier P Q (Some a) None p q = (inl p.0, λ s h. elim h [ inl k ↦ p.1 s k | inr k ↦ absurd (q s k) ])
 first_earlier P Q (Some a) (Some b) p q = at (nat_lt b.lo a.lo) refl
   where
     at : (c : Bool) → nat_lt b.lo a.lo ≡ c → IsFirst (λ s. P s ⊎ Q s) (earlier_span c a b)
     at true is =
         let less : b.lo < a.lo = ltb-true b.lo a.lo is in
-        (inr q.0, λ s h. elim h [ | inl k ↦ let l : a.lo ≤ s.lo = p.1 s k in omega (arith, less, l) | inr k ↦ q.1 s k ])
+        (inr q.0, λ s h. elim h [ inl k ↦ let l : a.lo ≤ s.lo = p.1 s k in omega (arith, less, l) | inr k ↦ q.1 s k ])
     at false is =
         let less : a.lo ≤ b.lo = ltb-false b.lo a.lo is in
-        (inl p.0, λ s h. elim h [ | inl k ↦ p.1 s k | inr k ↦ let l : b.lo ≤ s.lo = q.1 s k in omega (arith, less, l) ])
+        (inl p.0, λ s h. elim h [ inl k ↦ p.1 s k | inr k ↦ let l : b.lo ≤ s.lo = q.1 s k in omega (arith, less, l) ])

@@ -1,15 +1,14 @@
 -- What a summary says stands: there are ways that are so.
-use Rattle.std.proofs.Common.{◌≡◌, ◌∙◌, ◌⊎◌, ℕ, Bool, true, false, List, [], ◌∷◌, ◌++◌, Option, Some, None, ◌==◌, append_assoc, refl, ap, sym, subst, inl, inr}
+use Rattle.std.proofs.Common.{◌≡◌, ◌∙◌, ℕ, Bool, true, false, List, [], ◌∷◌, ◌++◌, Some, None, ◌==◌, append_assoc, refl, ap, sym, subst, inl, inr}
 use Rattle.std.proofs.lemmas.Bool.{eqb-true}
 use Rattle.tb_perm.specs.declared.span.Span.{Span}
 use Rattle.tb_flow.specs.declared.mark.Question.{Question}
 use Rattle.tb_flow.specs.declared.mark.Mark.{Mark}
 use Rattle.tb_flow.specs.declared.mark.Mark.TheVariants.{Kept, Yes, No}
-use Rattle.tb_flow.specs.declared.mark.Marks.{Marks}
 use Rattle.tb_flow.specs.declared.summary.Summary.{Summary}
 use Rattle.tb_flow.specs.Flows.{Event, Flow, Nothing, Does, Uses, Part, Then, Either, Loop, Break, Continue, Stop, End, Next, Broke, Continued, At, IsAway, IsBack, Way, Idle, Happens, Comes, Passes, Parts, First, Both, One, Other, Breaks, Continues, InHead, Ends, Leaves, InBody, Turns}
 use Rattle.tb_flow.specs.Questions.{mark_of}
-use Rattle.tb_flow.specs.Summaries.{no_marks, only, joined, followed, marked, used, part_moved, breaking, continuing, stopping, either_of, after, then_of, turned, at_head, in_body, ended, loop_of, use_of, summary_of}
+use Rattle.tb_flow.specs.Summaries.{no_marks, only, joined, followed, used, part_moved, breaking, continuing, stopping, either_of, after, then_of, turned, at_head, in_body, ended, loop_of, use_of, summary_of}
 use Rattle.tb_flow.proofs.Sets.{over, has, has_none, only_is, joined_has, followed_has}
 use Rattle.tb_flow.proofs.Found.{Found, found_marked, found_either, found_after, found_away, away}
 use Rattle.tb_flow.proofs.Effects.{effect, effect_append, Reaches}

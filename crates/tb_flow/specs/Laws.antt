@@ -1,10 +1,6 @@
 -- What a summary has to do with the ways through its piece.
-use Rattle.std.specs.Prelude.{◌≡◌, ◌≤◌, ℕ, Bool, true, ⊤, Option, Some, None}
+use Rattle.std.specs.Prelude.{◌≤◌, Option, Some, None}
 use Rattle.tb_perm.specs.declared.span.Span.{Span}
-use Rattle.tb_flow.specs.declared.mark.Question.{Question}
-use Rattle.tb_flow.specs.Flows.{Flow, At, HasPart}
-use Rattle.tb_flow.specs.Questions.{IsYesAt}
-use Rattle.tb_flow.specs.Summaries.{summary_of, yes_in}
 
 -- the place is the first with this: it has it, and no other that has it begins earlier
 abbrev pub IsFirst : (Span → Type 0) → Option Span → Type 0

@@ -1,5 +1,5 @@
 -- Summaries: what all ways through a piece do to the answer of one question about one variable.
-use Rattle.std.specs.Prelude.{ℕ, Bool, true, false, ◌&&◌, ◌||◌, Option, Some, None, ◌==◌, nat_lt, if◌then◌else◌}
+use Rattle.std.specs.Prelude.{ℕ, Bool, true, false, ◌&&◌, ◌||◌, Option, Some, None, ◌==◌, nat_lt}
 use Rattle.tb_perm.specs.declared.span.Span.{Span}
 use Rattle.tb_flow.specs.declared.mark.Question.{Question}
 use Rattle.tb_flow.specs.declared.mark.Mark.{Mark}

@@ -181,12 +181,7 @@ fn earlier(one: Option<Span>, other: Option<Span>) -> Option<Span>
     ensures { result ≡ earlier one other }
 {
     match (one, other) {
-        (Some(first), Some(second)) =>
-            if second.lo < first.lo {
-                other
-            } else {
-                one
-            },
+        (Some(first), Some(second)) => if second.lo < first.lo { other } else { one },
         (Some(_), None) => one,
         (None, _) => other,
     }

@@ -1,10 +1,8 @@
 -- A number that is no type counts as `()`, which copies.
-use Rattle.std.proofs.Common.{◌≡◌, ◌≤◌, ◌∙◌, ℕ, zero, suc, true, length, [], map, Option, None, refl, ap, subst, sym}
-use Rattle.std.specs.Prelude.{slice_get}
+use Rattle.std.proofs.Common.{◌≡◌, ℕ, zero, suc, true, [], map, None, refl, subst, sym}
 use Rattle.tb_types.specs.declared.shape.Ty.{Ty}
-use Rattle.tb_types.specs.declared.shape.TyShape.{TyShape}
 use Rattle.tb_types.specs.Table.{TypeTable, shape_at}
-use Rattle.tb_types.specs.Folded.{Node, node_by, node_of, folded_at, folded, depth_of}
+use Rattle.tb_types.specs.Folded.{node_by, folded_at, folded, depth_of}
 use Rattle.tb_types.specs.Facts.{is_copy, facts_by}
 
 unit_copy_at : (types : TypeTable) (ty : Ty) (depth : ℕ) → shape_at types ty ≡ None → (folded_at facts_by types depth ty).copy ≡ true

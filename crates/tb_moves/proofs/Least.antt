@@ -13,18 +13,18 @@ IsLeast P None = (error : MoveError) → P error → ⊥
 IsLeast P (Some first) = P first × ((error : MoveError) → P error → key_of first ≤ key_of error)
 
 pub least_earliest : (P Q : MoveError → Type 0) (x y : Option MoveError) → IsLeast P x → IsLeast Q y → IsLeast (λ e. P e ⊎ Q e) (earliest x y)
-least_earliest P Q None None p q = λ e h. elim h [ | inl k ↦ p e k | inr k ↦ q e k ]
-least_earliest P Q None (Some b) p q = (inr q.0, λ e h. elim h [ | inl k ↦ absurd (p e k) | inr k ↦ q.1 e k ])
-least_earliest P Q (Some a) None p q = (inl p.0, λ e h. elim h [ | inl k ↦ p.1 e k | inr k ↦ absurd (q e k) ])
+least_earliest P Q None None p q = λ e h. elim h [ inl k ↦ p e k | inr k ↦ q e k ]
+least_earliest P Q None (Some b) p q = (inr q.0, λ e h. elim h [ inl k ↦ absurd (p e k) | inr k ↦ q.1 e k ])
+least_earliest P Q (Some a) None p q = (inl p.0, λ e h. elim h [ inl k ↦ p.1 e k | inr k ↦ absurd (q e k) ])
 least_earliest P Q (Some a) (Some b) p q = at (nat_lt (key_of b) (key_of a)) refl
   where
     at : (c : Bool) → nat_lt (key_of b) (key_of a) ≡ c → IsLeast (λ e. P e ⊎ Q e) (earliest_of c a b)
     at true is =
         let less : key_of b < key_of a = ltb-true (key_of b) (key_of a) is in
-        (inr q.0, λ e h. elim h [ | inl k ↦ let l : key_of a ≤ key_of e = p.1 e k in omega (arith, less, l) | inr k ↦ q.1 e k ])
+        (inr q.0, λ e h. elim h [ inl k ↦ let l : key_of a ≤ key_of e = p.1 e k in omega (arith, less, l) | inr k ↦ q.1 e k ])
     at false is =
         let less : key_of a ≤ key_of b = ltb-false (key_of b) (key_of a) is in
-        (inl p.0, λ e h. elim h [ | inl k ↦ p.1 e k | inr k ↦ let l : key_of b ≤ key_of e = q.1 e k in omega (arith, less, l) ])
+        (inl p.0, λ e h. elim h [ inl k ↦ p.1 e k | inr k ↦ let l : key_of b ≤ key_of e = q.1 e k in omega (arith, less, l) ])
 
 pub least_same : (P Q : MoveError → Type 0) → ((e : MoveError) → P e → Q e) → ((e : MoveError) → Q e → P e) → (x : Option MoveError) → IsLeast P x → IsLeast Q x
 least_same P Q to from None p = λ e h. p e (from e h)

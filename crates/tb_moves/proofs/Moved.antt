@@ -13,7 +13,6 @@ use Rattle.tb_flow.specs.Questions.{answer_of, variable_of, mark_of, marked_answ
 use Rattle.tb_flow.specs.Summaries.{yes_in}
 use Rattle.tb_flow.specs.Laws.{IsFirst}
 use Rattle.tb_flow.proofs.Firsts.{first_yes}
-use Rattle.tb_moves.specs.declared.error.MoveError.{MoveError}
 use Rattle.tb_moves.specs.declared.error.MoveError.TheVariants.{NotInitialised, UsedAfterMove}
 use Rattle.tb_moves.specs.Trees.{body_of}
 use Rattle.tb_moves.specs.Moves.{starts_yes, earliest}
@@ -43,6 +42,6 @@ none_moved v now flow none = at (yes_in AfterMove v false flow) (first_yes After
 pub no_fault : (types : TypeTable) (function : Function) (v : ℕ) → yes_in NoValue v (starts_yes NoValue function v) (body_of types function) ≡ None → None ≡ variable_fault types function v
 no_fault types function v none =
     sym (
-      ap (λ x. earliest (option_map NotInitialised x) (option_map UsedAfterMove (yes_in AfterMove v false (body_of types function)))) none
-      ∙ ap (λ x. earliest None (option_map UsedAfterMove x)) (none_moved v (starts_yes NoValue function v) (body_of types function) none)
+    ap (λ x. earliest (option_map NotInitialised x) (option_map UsedAfterMove (yes_in AfterMove v false (body_of types function)))) none
+    ∙ ap (λ x. earliest None (option_map UsedAfterMove x)) (none_moved v (starts_yes NoValue function v) (body_of types function) none)
     )

@@ -1,19 +1,16 @@
 -- What is worked out is the first fault.
-use Rattle.std.proofs.Common.{◌≡◌, ◌⊎◌, ℕ, zero, suc, ◌<◌, ◌≤◌, List, [], ◌∷◌, length, Option, Some, None, refl, sym, subst, inl, inr, arith}
-use Rattle.std.specs.Option.{option_map}
+use Rattle.std.proofs.Common.{◌⊎◌, ℕ, zero, suc, List, [], ◌∷◌, length, Option, None, refl, sym, subst, inl, inr, arith}
 use Rattle.std.proofs.lemmas.Bool.{cases_eq}
-use Rattle.tb_perm.specs.declared.span.Span.{Span}
 use Rattle.tb_types.specs.Table.{TypeTable}
 use Rattle.tb_thir.specs.declared.program.Function.{Function}
-use Rattle.tb_thir.specs.declared.program.Thir.{Thir}
 use Rattle.tb_flow.specs.declared.mark.Question.TheVariants.{NoValue, AfterMove}
 use Rattle.tb_flow.specs.Flows.{HasPart}
-use Rattle.tb_flow.specs.Summaries.{summary_of, yes_in}
+use Rattle.tb_flow.specs.Summaries.{summary_of}
 use Rattle.tb_flow.proofs.Firsts.{first_yes, first_part}
 use Rattle.tb_moves.specs.declared.error.MoveError.{MoveError}
 use Rattle.tb_moves.specs.declared.error.MoveError.TheVariants.{NotInitialised, UsedAfterMove, MoveOutOfAPart}
 use Rattle.tb_moves.specs.Trees.{body_of}
-use Rattle.tb_moves.specs.Moves.{earliest, starts_yes, IsUse, IsFaultBelow, IsFault, IsFaultIn, NoFault, IsFirstFault}
+use Rattle.tb_moves.specs.Moves.{earliest, starts_yes, IsUse, IsFaultBelow, IsFault, IsFaultIn}
 use Rattle.tb_moves.specs.Firsts.{part_fault, variable_fault, faults_below, function_fault, faults_from}
 use Rattle.tb_moves.proofs.Least.{IsLeast, IsMade, least_earliest, least_same, least_made}
 
@@ -77,15 +74,15 @@ module _ (types : TypeTable) (function : Function) where
   least_function = least_below (length function.variables)
 
 least_from : (types : TypeTable) (P : MoveError → Type 0) (x : Option MoveError) (functions : List Function) → IsLeast P x → IsLeast (λ e. P e ⊎ IsFaultIn types functions e) (faults_from types x functions)
-least_from types P x [] p = least_same P (λ e. P e ⊎ ⊥) (λ e h. inl h) (λ e h. elim h [ | inl k ↦ k | inr k ↦ absurd k ]) x p
+least_from types P x [] p = least_same P (λ e. P e ⊎ ⊥) (λ e h. inl h) (λ e h. elim h [ inl k ↦ k | inr k ↦ absurd k ]) x p
 least_from types P x (function ∷ functions) p =
     least_same (λ e. (P e ⊎ IsFault types function e) ⊎ IsFaultIn types functions e) (λ e. P e ⊎ IsFaultIn types (function ∷ functions) e)
-    (λ e h. elim h [ | inl k ↦ elim k [ | inl l ↦ inl l | inr l ↦ inr (inl l) ] | inr k ↦ inr (inr k) ])
-    (λ e h. elim h [ | inl k ↦ inl (inl k) | inr k ↦ elim k [ | inl l ↦ inl (inr l) | inr l ↦ inr l ] ])
+    (λ e h. elim h [ inl k ↦ elim k [ inl l ↦ inl l | inr l ↦ inr (inl l) ] | inr k ↦ inr (inr k) ])
+    (λ e h. elim h [ inl k ↦ inl (inl k) | inr k ↦ elim k [ inl l ↦ inl (inr l) | inr l ↦ inr l ] ])
     (faults_from types x (function ∷ functions))
     (least_from types (λ e. P e ⊎ IsFault types function e) (earliest x (function_fault types function)) functions (least_earliest P (IsFault types function) x (function_fault types function) p (least_function types function)))
 
 pub least_fault : (types : TypeTable) (functions : List Function) → IsLeast (IsFaultIn types functions) (faults_from types None functions)
 least_fault types functions =
-    least_same (λ e. ⊥ ⊎ IsFaultIn types functions e) (IsFaultIn types functions) (λ e h. elim h [ | inl k ↦ absurd k | inr k ↦ k ]) (λ e h. inr h) (faults_from types None functions)
+    least_same (λ e. ⊥ ⊎ IsFaultIn types functions e) (IsFaultIn types functions) (λ e h. elim h [ inl k ↦ absurd k | inr k ↦ k ]) (λ e h. inr h) (faults_from types None functions)
     (least_from types (λ e. ⊥) None functions (λ e h. h))

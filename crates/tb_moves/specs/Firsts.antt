@@ -1,7 +1,6 @@
 -- The first fault, worked out: of a function's parts, of each of its variables, of all functions.
-use Rattle.std.specs.Prelude.{ℕ, zero, suc, List, [], ◌∷◌, length, Option, Some, None}
+use Rattle.std.specs.Prelude.{ℕ, zero, suc, List, [], ◌∷◌, length, Option}
 use Rattle.std.specs.Option.{option_map}
-use Rattle.tb_perm.specs.declared.span.Span.{Span}
 use Rattle.tb_types.specs.Table.{TypeTable}
 use Rattle.tb_thir.specs.declared.program.Function.{Function}
 use Rattle.tb_flow.specs.declared.mark.Question.TheVariants.{NoValue, AfterMove}

@@ -1,5 +1,5 @@
 -- What a typed tree does with variables, in the order of evaluation: one equation for each form.
-use Rattle.std.specs.Prelude.{Bool, true, false, List, [], ◌∷◌, Option, None, Some, if◌then◌else◌}
+use Rattle.std.specs.Prelude.{true, false, List, [], ◌∷◌, Option, None, Some, if◌then◌else◌}
 use Rattle.tb_types.specs.Table.{TypeTable}
 use Rattle.tb_types.specs.Facts.{is_copy}
 use Rattle.tb_thir.specs.declared.node.Head.{Head}

@@ -62,12 +62,11 @@ pub fn earliest(one: Option<MoveError>, other: Option<MoveError>) -> Option<Move
     ensures { result ≡ earliest one other }
 {
     match (one, other) {
-        (Some(first), Some(second)) =>
-            if second.key() < first.key() {
-                other
-            } else {
-                one
-            },
+        (Some(first), Some(second)) => if second.key() < first.key() {
+            other
+        } else {
+            one
+        },
         (Some(_), None) => one,
         (None, _) => other,
     }

@@ -98,8 +98,9 @@ impl Scan<'_> {
         ensures { result ≡ summary_of self.now.question self.now.variable (flows_of self.now.types.now node.now).value }
     {
         match node {
-            Node::Variable { head, variable, .. } =>
-                self.used(*variable, head.span).then(self.read(*head, *variable)),
+            Node::Variable { head, variable, .. } => self
+                .used(*variable, head.span)
+                .then(self.read(*head, *variable)),
             Node::Field { head, base, .. } => self.place(base.get()).then(self.read_part(*head)),
             Node::Index {
                 head,
@@ -110,8 +111,9 @@ impl Scan<'_> {
                 let place = self.place(base.get()).then(self.value(index.get()));
                 place.then(self.read_part(*head))
             }
-            Node::Deref { head, pointer, .. } =>
-                self.place(pointer.get()).then(self.read_part(*head)),
+            Node::Deref { head, pointer, .. } => self
+                .place(pointer.get())
+                .then(self.read_part(*head)),
             _ => self.control(node),
         }
     }
@@ -124,8 +126,7 @@ impl Scan<'_> {
         match node {
             Node::Variable { head, variable, .. } => self.used(*variable, head.span),
             Node::Field { base, .. } => self.place(base.get()),
-            Node::Index { base, index, .. } =>
-                self.place(base.get()).then(self.value(index.get())),
+            Node::Index { base, index, .. } => self.place(base.get()).then(self.value(index.get())),
             Node::Deref { pointer, .. } => self.place(pointer.get()),
             _ => self.control(node),
         }
@@ -150,17 +151,22 @@ impl Scan<'_> {
         match node {
             Node::Logic { left, right, .. } => {
                 let right = self.value(right.get());
-                self.value(left.get()).then(right.either(Summary::marked(Mark::Kept)))
+                self.value(left.get())
+                    .then(right.either(Summary::marked(Mark::Kept)))
             }
-            Node::Assign { target, value, .. } =>
-                self.value(value.get()).then(self.target(target.get())),
-            Node::AssignOperator { target, value, .. } =>
-                self.value(value.get()).then(self.place(target.get())),
+            Node::Assign { target, value, .. } => self
+                .value(value.get())
+                .then(self.target(target.get())),
+            Node::AssignOperator { target, value, .. } => self
+                .value(value.get())
+                .then(self.place(target.get())),
             Node::Block {
                 statements,
                 last,
                 ..
-            } => self.in_order(statements.as_slice()).then(self.if_there(last)),
+            } => self
+                .in_order(statements.as_slice())
+                .then(self.if_there(last)),
             Node::If {
                 condition,
                 body,
@@ -178,13 +184,20 @@ impl Scan<'_> {
                 let head = self.value(condition.get());
                 Summary::looped(head, true, self.value(body.get()))
             }
-            Node::Loop { body, .. } =>
-                Summary::looped(Summary::marked(Mark::Kept), false, self.value(body.get())),
+            Node::Loop { body, .. } => Summary::looped(
+                Summary::marked(Mark::Kept),
+                false,
+                self.value(body.get()),
+            ),
             Node::Return { value, .. } => self.if_there(value).then(Summary::stopping()),
             Node::Break { .. } => Summary::breaking(),
             Node::Continue { .. } => Summary::continuing(),
             Node::Panic { .. } => Summary::stopping(),
-            Node::Let { variable, value, .. } => match value {
+            Node::Let {
+                variable,
+                value,
+                ..
+            } => match value {
                 Some(value) => self.value(value.get()).then(self.given(*variable)),
                 None => self.declared(*variable),
             },
@@ -198,8 +211,9 @@ impl Scan<'_> {
         ensures { result ≡ summary_of self.now.question self.now.variable (operand_in (pieces_of self.now.types.now node.now)) }
     {
         match node {
-            Node::Borrow { operand, .. } | Node::Length { operand, .. } =>
-                self.place(operand.get()),
+            Node::Borrow { operand, .. } | Node::Length { operand, .. } => self.place(
+                operand.get(),
+            ),
             Node::Unary { operand: part, .. }
             | Node::Cast { operand: part, .. }
             | Node::Unsize { operand: part, .. }
@@ -213,8 +227,9 @@ impl Scan<'_> {
                 expression: part,
                 ..
             } => self.value(part.get()),
-            Node::Binary { left, right, .. } =>
-                self.value(left.get()).then(self.value(right.get())),
+            Node::Binary { left, right, .. } => self
+                .value(left.get())
+                .then(self.value(right.get())),
             Node::Make { parts: list, .. }
             | Node::Call {
                 arguments: list,

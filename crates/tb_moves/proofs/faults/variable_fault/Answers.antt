@@ -1,4 +1,4 @@
-use Rattle.std.proofs.Common.{◌≡◌, ◌∙◌, sym}
+use Rattle.std.proofs.Common.{◌∙◌, sym}
 use Rattle.tb_moves.proofs.Moved.{no_fault}
 use Rattle.tb_moves.proofs.faults.variable_fault.Goals as goal
 
