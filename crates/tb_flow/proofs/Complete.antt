@@ -1,5 +1,5 @@
 -- Each way is allowed by the summary of its piece.
-use Rattle.std.proofs.Common.{◌≡◌, ◌∙◌, ◌⊎◌, ℕ, Bool, true, false, List, ◌++◌, ◌==◌, refl, ap, sym, subst, inl, inr, arith}
+use Rattle.std.proofs.Common.{◌≡◌, ◌∙◌, ◌⊎◌, ℕ, Bool, true, false, List, ◌++◌, ◌==◌, refl, ap, sym, subst, inl, inr}
 use Rattle.std.proofs.lemmas.Bool.{eq-eqb, and_parts}
 use Rattle.tb_perm.specs.declared.span.Span.{Span}
 use Rattle.tb_flow.specs.declared.mark.Question.{Question}
@@ -11,7 +11,7 @@ use Rattle.tb_flow.specs.Flows.{Event, Flow, Then, Loop, End, Next, Broke, Conti
 use Rattle.tb_flow.specs.Questions.{mark_of}
 use Rattle.tb_flow.specs.Summaries.{no_marks, only, joined, followed, either_of, after, then_of, turned, at_head, in_body, ended, loop_of, use_of, summary_of}
 use Rattle.tb_flow.proofs.Sets.{over, has, over_kept, has_none, has_only, has_left, has_right, joined_has, has_followed, followed_kept}
-use Rattle.tb_flow.proofs.Places.{NotAfter, earlier_cases, where_parts}
+use Rattle.tb_flow.proofs.Places.{leq_refl, NotAfter, earlier_cases, where_parts}
 use Rattle.tb_flow.proofs.Found.{Allows, allows_left, allows_right, allows_after, allows_away, away}
 use Rattle.tb_flow.proofs.Effects.{effect, effect_append}
 
@@ -125,7 +125,7 @@ passes true span = refl
 passes false span = refl
 
 comes : (v w : ℕ) (span : Span) → w ≡ v → NotAfter (use_of (w == v) span).kept_use span
-comes v w span same = subst (λ b. NotAfter (use_of b span).kept_use span) (sym (eq-eqb w v same)) (omega arith)
+comes v w span same = subst (λ b. NotAfter (use_of b span).kept_use span) (sym (eq-eqb w v same)) (leq_refl span)
 
 pub complete : (question : Question) (v : ℕ) (flow : Flow) (es : List Event) (end : End) → Way flow es end → Allows v (summary_of question v flow) end (effect question v es)
 unfolding then_of

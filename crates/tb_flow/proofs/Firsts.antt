@@ -60,7 +60,7 @@ module _ (question : Question) (v : ℕ) (now : Bool) (flow : Flow) where
 
   first_at : (x : Option Span) → yes_in question v now flow ≡ x → IsFirst (λ span. IsYesAt question v now flow (At v span)) x
   first_at None is = λ span h. subst (λ x. NotAfter x span) is (none_before span h)
-  first_at (Some first) is = (is_there first is, λ span h. subst (λ x. NotAfter x span) is (none_before span h))
+  first_at (Some first) is = (is_there first is, λ span h. let k : NotAfter (Some first) span = subst (λ x. NotAfter x span) is (none_before span h) in k.0)
 
   pub first_yes : IsFirst (λ span. IsYesAt question v now flow (At v span)) (yes_in question v now flow)
   first_yes = first_at (yes_in question v now flow) refl

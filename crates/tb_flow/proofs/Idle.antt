@@ -6,7 +6,7 @@ use Rattle.tb_flow.specs.declared.mark.Marks.{Marks}
 use Rattle.tb_flow.specs.declared.summary.Summary.{Summary}
 use Rattle.tb_flow.specs.Summaries.{no_marks, only, some_way, joined, followed, earlier, where_true, marked, either_of, then_of}
 
-abbrev bits : Bool → Bool → Bool → Marks
+abbrev pub bits : Bool → Bool → Bool → Marks
 bits k y n = record { kept = k; yes = y; no = n }
 
 marks_behind : (k y n : Bool) → joined no_marks (followed (bits k y n) (only Kept)) ≡ bits k y n
@@ -19,7 +19,7 @@ marks_behind false true false = refl
 marks_behind false false true = refl
 marks_behind false false false = refl
 
-bits_same : (a b c d e f : Bool) → a ≡ d → b ≡ e → c ≡ f → bits a b c ≡ bits d e f
+pub bits_same : (a b c d e f : Bool) → a ≡ d → b ≡ e → c ≡ f → bits a b c ≡ bits d e f
 bits_same a b c d e f x y z = ap (λ k. bits k b c) x ∙ ap (λ k. bits d k c) y ∙ ap (λ k. bits d e k) z
 
 still : (a s : Bool) → (a || (s && false)) ≡ a
@@ -55,10 +55,10 @@ where_none : (c : Bool) → where_true c None ≡ None
 where_none true = refl
 where_none false = refl
 
-abbrev whole : Marks → Marks → Marks → Option Span → Option Span → Option Span → Summary
+abbrev pub whole : Marks → Marks → Marks → Option Span → Option Span → Option Span → Summary
 whole next broke continued kept_use yes_use part = record { next = next; broke = broke; continued = continued; kept_use = kept_use; yes_use = yes_use; part = part }
 
-whole_same : (a b c d e f : Marks) (k l m p q r : Option Span) → a ≡ d → b ≡ e → c ≡ f → k ≡ p → l ≡ q → m ≡ r → whole a b c k l m ≡ whole d e f p q r
+pub whole_same : (a b c d e f : Marks) (k l m p q r : Option Span) → a ≡ d → b ≡ e → c ≡ f → k ≡ p → l ≡ q → m ≡ r → whole a b c k l m ≡ whole d e f p q r
 whole_same a b c d e f k l m p q r s t u v w x =
     ap (λ i. whole i b c k l m) s ∙ ap (λ i. whole d i c k l m) t ∙ ap (λ i. whole d e i k l m) u
     ∙ ap (λ i. whole d e f i l m) v ∙ ap (λ i. whole d e f p i m) w ∙ ap (λ i. whole d e f p q i) x
@@ -69,7 +69,7 @@ yes_none true false = refl
 yes_none false true = refl
 yes_none false false = refl
 
-behind : (a : Summary) → then_of a (marked Kept) ≡ a
+pub behind : (a : Summary) → then_of a (marked Kept) ≡ a
 unfolding then_of either_of
 behind a =
     whole_same _ _ _ _ _ _ _ _ _ _ _ _
@@ -78,7 +78,7 @@ behind a =
     (ap (λ x. earlier a.yes_use x) (yes_none (some_way a.next) a.next.yes) ∙ earlier_none a.yes_use)
     (earlier_none a.part)
 
-before : (b : Summary) → then_of (marked Kept) b ≡ b
+pub before : (b : Summary) → then_of (marked Kept) b ≡ b
 unfolding then_of either_of
 before b =
     whole_same _ _ _ _ _ _ b.kept_use _ b.part b.kept_use _ b.part

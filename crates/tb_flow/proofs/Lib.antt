@@ -6,5 +6,6 @@ pub mod Sound
 pub mod Complete
 pub mod Firsts
 pub mod Idle
+pub mod Assoc
 pub mod AllWays
 pub mod Least

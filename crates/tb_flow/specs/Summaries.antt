@@ -32,7 +32,10 @@ followed a b = record {
   no = (some_way a && b.no) || (a.no && b.kept);
 }
 
--- the place that begins earlier
+-- the place that begins earlier; of two that begin together the one that ends earlier
+abbrev pub is_before : Span → Span → Bool
+is_before a b = nat_lt a.lo b.lo || ((a.lo == b.lo) && nat_lt a.hi b.hi)
+
 abbrev pub earlier_span : Bool → Span → Span → Option Span
 earlier_span true first second = Some second
 earlier_span false first second = Some first
@@ -40,7 +43,7 @@ earlier_span false first second = Some first
 abbrev pub earlier : Option Span → Option Span → Option Span
 earlier None other = other
 earlier (Some first) None = Some first
-earlier (Some first) (Some second) = earlier_span (nat_lt second.lo first.lo) first second
+earlier (Some first) (Some second) = earlier_span (is_before second first) first second
 
 abbrev pub where_true : Bool → Option Span → Option Span
 where_true true span = span
@@ -125,6 +128,28 @@ summary_of question v (Loop head leaves body) = loop_of (summary_of question v h
 summary_of question v Break = breaking
 summary_of question v Continue = continuing
 summary_of question v Stop = stopping
+
+-- the summary of what was gone through, and then of a piece; where nothing happens it stays as it is
+abbrev pub with_mark : Mark → Summary → Summary
+with_mark Kept whole = whole
+with_mark Yes whole = then_of whole (marked Yes)
+with_mark No whole = then_of whole (marked No)
+
+abbrev pub with_use : Bool → Span → Summary → Summary
+with_use true span whole = then_of whole (used span)
+with_use false span whole = whole
+
+abbrev pub run : Question → ℕ → Summary → Flow → Summary
+run question v whole Nothing = whole
+run question v whole (Does event) = with_mark (mark_of question v event) whole
+run question v whole (Uses w span) = with_use (w == v) span whole
+run question v whole (Part span) = then_of whole (part_moved span)
+run question v whole (Then a b) = run question v (run question v whole a) b
+run question v whole (Either a b) = then_of whole (either_of (run question v (marked Kept) a) (run question v (marked Kept) b))
+run question v whole (Loop head leaves body) = then_of whole (loop_of (run question v (marked Kept) head) leaves (run question v (marked Kept) body))
+run question v whole Break = then_of whole breaking
+run question v whole Continue = then_of whole continuing
+run question v whole Stop = then_of whole stopping
 
 -- the summary, where the answer is `now` before the piece
 abbrev pub given : Bool → Marks

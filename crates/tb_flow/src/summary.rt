@@ -2,7 +2,7 @@
 
 ghost use Rattle.std.specs.Prelude.{◌≡◌, true, None};
 ghost use Rattle.tb_flow.specs.declared.mark.Mark.TheVariants.{Kept};
-ghost use Rattle.tb_flow.specs.Summaries.{marked, used, part_moved, breaking, continuing, stopping, earlier, where_true, either_of, after, then_of, at_head, in_body, loop_of};
+ghost use Rattle.tb_flow.specs.Summaries.{marked, used, part_moved, breaking, continuing, stopping, is_before, earlier, where_true, either_of, after, then_of, at_head, in_body, loop_of};
 
 use crate::mark::{Mark, Marks};
 use tb_perm::Span;
@@ -181,10 +181,17 @@ fn earlier(one: Option<Span>, other: Option<Span>) -> Option<Span>
     ensures { result ≡ earlier one other }
 {
     match (one, other) {
-        (Some(first), Some(second)) => if second.lo < first.lo { other } else { one },
+        (Some(first), Some(second)) => if is_before(second, first) { other } else { one },
         (Some(_), None) => one,
         (None, _) => other,
     }
+}
+
+/// Whether the first begins earlier, or begins with the second and ends earlier.
+fn is_before(a: Span, b: Span) -> bool
+    ensures { result ≡ is_before a b }
+{
+    a.lo < b.lo || (a.lo == b.lo && a.hi < b.hi)
 }
 
 /// The span where this holds, and none where not.

@@ -5,15 +5,15 @@ use Rattle.tb_thir.specs.declared.node.Node.{Node}
 use Rattle.tb_flow.specs.declared.mark.Question.{Question}
 use Rattle.tb_flow.specs.declared.summary.Summary.{Summary}
 use Rattle.tb_flow.specs.Flows.{Flow, Then}
-use Rattle.tb_flow.specs.Summaries.{summary_of, then_of}
+use Rattle.tb_flow.specs.Summaries.{run}
 use Rattle.tb_moves.specs.Trees.{flows_of, then_all}
 
--- the summary of what was gone through, and then of these nodes
-abbrev pub summed : TypeTable → Question → ℕ → Summary → List Node → Summary
-summed types question v done [] = done
-summed types question v done (node ∷ nodes) = summed types question v (then_of done (summary_of question v (flows_of types node).value)) nodes
+-- what was gone through, and then these nodes
+abbrev pub run_all : TypeTable → Question → ℕ → Summary → List Node → Summary
+run_all types question v whole [] = whole
+run_all types question v whole (node ∷ nodes) = run_all types question v (run question v whole (flows_of types node).value) nodes
 
-pub summed_all : (types : TypeTable) (question : Question) (v : ℕ) (done : Flow) (nodes : List Node)
-    → summed types question v (summary_of question v done) nodes ≡ summary_of question v (then_all done (map (flows_of types) nodes))
-summed_all types question v done [] = refl
-summed_all types question v done (node ∷ nodes) = summed_all types question v (Then done (flows_of types node).value) nodes
+pub run_order : (types : TypeTable) (question : Question) (v : ℕ) (whole : Summary) (done : Flow) (nodes : List Node)
+    → run_all types question v (run question v whole done) nodes ≡ run question v whole (then_all done (map (flows_of types) nodes))
+run_order types question v whole done [] = refl
+run_order types question v whole done (node ∷ nodes) = run_order types question v whole (Then done (flows_of types node).value) nodes

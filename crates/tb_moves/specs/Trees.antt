@@ -56,22 +56,26 @@ operand_in (Node-F.Builtin head builtin about arguments) = in_order arguments
 operand_in (Node-F.Print head newline text arguments) = in_order arguments
 operand_in row = Nothing
 
--- where ways part, meet, turn back and end, and what gives a variable a value; an assignment evaluates its value before its target
+-- where ways turn back and end
+abbrev pub jump_in : Node-F Flows → Flow
+jump_in (Node-F.While head condition body) = Loop condition.value true body.value
+jump_in (Node-F.Loop head body breaks) = Loop Nothing false body.value
+jump_in (Node-F.Return head value) = Then (if_there value) Stop
+jump_in (Node-F.Break head) = Break
+jump_in (Node-F.Continue head) = Continue
+jump_in (Node-F.Panic head) = Stop
+jump_in row = operand_in row
+
+-- where ways part and meet, and what gives a variable a value; an assignment evaluates its value before its target
 abbrev pub control_in : Node-F Flows → Flow
 control_in (Node-F.Logic head operator left right) = Then left.value (Either right.value Nothing)
 control_in (Node-F.Assign head target value) = Then value.value target.target
 control_in (Node-F.AssignOperator head operator target value) = Then value.value target.place
 control_in (Node-F.Block head statements last ends) = Then (in_order statements) (if_there last)
 control_in (Node-F.If head condition body otherwise ends) = Then condition.value (Either body.value (if_there otherwise))
-control_in (Node-F.While head condition body) = Loop condition.value true body.value
-control_in (Node-F.Loop head body breaks) = Loop Nothing false body.value
-control_in (Node-F.Return head value) = Then (if_there value) Stop
-control_in (Node-F.Break head) = Break
-control_in (Node-F.Continue head) = Continue
-control_in (Node-F.Panic head) = Stop
 control_in (Node-F.Let head variable (Some value)) = Then value.value (Does (Given variable))
 control_in (Node-F.Let head variable None) = Does (Declared variable)
-control_in row = operand_in row
+control_in row = jump_in row
 
 -- the places; a variable that is the whole target of `=` is given a value and is not used
 abbrev pub flows_in : TypeTable → Node-F Flows → Flows

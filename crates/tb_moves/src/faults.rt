@@ -7,7 +7,7 @@ ghost use Rattle.tb_moves.specs.Moves.{starts_yes, NoFault, IsFirstFault};
 ghost use Rattle.tb_moves.specs.Firsts.{part_fault, variable_fault, function_fault};
 
 use crate::error::{MoveError, earliest};
-use crate::scan::Scan;
+use crate::scan::{Scan, summed};
 use tb_flow::{Mark, Marks, Question};
 use tb_perm::Span;
 use tb_thir::{Function, Thir};
@@ -59,7 +59,7 @@ fn part_fault(types: &Types, function: &Function) -> Option<MoveError>
         question: Question::NoValue,
         variable: 0,
     };
-    match scan.value(&function.body).part {
+    match summed(&scan, &function.body).part {
         Some(span) => Some(MoveError::MoveOutOfAPart(span)),
         None => None,
     }
@@ -94,7 +94,9 @@ fn yes_at(types: &Types, function: &Function, question: Question, variable: usiz
     } else {
         Mark::No
     };
-    scan.value(&function.body).after(Marks::only(start)).yes_use
+    summed(&scan, &function.body)
+        .after(Marks::only(start))
+        .yes_use
 }
 
 /// The answer where the function begins. Its parameters have values.
