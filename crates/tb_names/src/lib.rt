@@ -8,4 +8,5 @@ mod word;
 
 pub use limits::limit_fault;
 pub use program::main_fault;
-pub use repeats::repeat_fault;
+pub use repeats::{repeat_fault, type_parameters};
+pub use word::Word;

@@ -134,8 +134,12 @@ fn type_names(alloc: Global, parameters: &[GenericParameter]) -> Result<Vec<&Ide
     Ok(names)
 }
 
-fn generic_names(alloc: Global, generics: &Option<Generics>) -> Result<Vec<&Ident>, AllocError>
-    ensures { IfOk result (λ names. told names.items ≡ type_parameters_of generics.now) }
+/// The type parameters of a function, in the order of the text; lifetimes are none.
+pub fn type_parameters(
+    alloc: Global,
+    generics: &Option<Generics>,
+) -> Result<Vec<&Ident>, AllocError>
+    ensures parameters { IfOk result (λ names. told names.items ≡ type_parameters_of generics.now) }
 {
     match generics {
         Some(generics) => type_names(alloc, generics.parameters.as_slice()),
@@ -179,7 +183,7 @@ fn inner_repeat(alloc: Global, kind: &ItemKind) -> Result<Option<Span>, AllocErr
             inner(alloc, &names)
         }
         ItemKind::Function(function) => {
-            let types = generic_names(alloc, &function.generics)?;
+            let types = type_parameters(alloc, &function.generics)?;
             if let Some(span) = inner(alloc, &types)? {
                 return Ok(Some(span));
             }

@@ -7,6 +7,7 @@ ghost use Rattle.std.specs.Hash as fed;
 ghost use Rattle.std.specs.Hash.{items_Alike, same_Alike};
 ghost use Rattle.std.specs.Str.{bytes_eq};
 
+use indexmap::Equivalent;
 use std::alloc::{AllocError, Global};
 use std::hash::{Hash, Hasher};
 use std::marker::Model;
@@ -29,6 +30,7 @@ impl Model for Word {
 }
 
 impl Word {
+    /// The name of these bytes. It answers with an error where it is out of memory.
     pub fn new(alloc: Global, bytes: &[u8]) -> Result<Word, AllocError>
         ensures { IfOk result (λ word. word ≡ bytes.now) }
     {
@@ -60,5 +62,18 @@ impl Hash for Word {
 
     fn hash<H: Hasher>(&self, state: &mut H) {
         self.bytes.as_slice().hash(state);
+    }
+}
+
+/// Bytes stand for the name that has them.
+impl Equivalent<Word> for &[u8] {
+    ghost equivalent = { λ name word. bytes_eq name.now word };
+
+    ghost respects_hash = { λ name word. (items_Alike (same_Alike fed.u8 unsigned_Decides)).fed name.now word };
+
+    ghost respects_eq = { λ name one other. nat_list_eq_equiv.congr name.now one other };
+
+    fn equivalent(&self, key: &Word) -> bool {
+        *self == key.bytes.as_slice()
     }
 }

@@ -1,0 +1,4 @@
+pub mod Paths
+pub mod Files
+pub mod Builtins
+pub mod Lookups
