@@ -13,4 +13,4 @@ pub named_in_more : (entries : List Entry) (e : Entry) (name : List ℕ) → nam
 named_in_more [] e name = refl
 named_in_more (entry ∷ entries) e name =
     ap (λ named. or_named named (if bytes_eq entry.name name then Some entry.named else None)) (named_in_more entries e name)
-  ∙ or_named_if (bytes_eq e.name name) e.named (named_in entries name) (if bytes_eq entry.name name then Some entry.named else None)
+    ∙ or_named_if (bytes_eq e.name name) e.named (named_in entries name) (if bytes_eq entry.name name then Some entry.named else None)

@@ -9,7 +9,6 @@ use Rattle.tb_ast.specs.declared.item.ItemKind.TheVariants as item
 use Rattle.tb_names.specs.Names.{name_of}
 use Rattle.tb_names.specs.Repeats.{foreign_names}
 use Rattle.tb_lookup.specs.declared.file.Entry.{Entry}
-use Rattle.tb_ast.specs.declared.item.ForeignFunction.{ForeignFunction}
 use Rattle.tb_lookup.specs.declared.file.Counts.{Counts}
 use Rattle.tb_lookup.specs.declared.file.Named.{Named}
 use Rattle.tb_lookup.specs.declared.file.Named.TheVariants.{Struct, Function, Getchar}

@@ -1,5 +1,5 @@
 -- What a path names: as a type, as the struct of a struct literal, as what is called, and as what is imported.
-use Rattle.std.specs.Prelude.{ℕ, Bool, true, false, ◌&&◌, ◌||◌, if◌then◌else◌, List, [], ◌∷◌, ◌++◌, map, Option, Some, None, is_some, position, nat_eq, drop, length, codes}
+use Rattle.std.specs.Prelude.{ℕ, Bool, true, false, ◌&&◌, if◌then◌else◌, List, [], ◌∷◌, Option, Some, None, is_some, position, nat_eq, drop, length, codes}
 use Rattle.std.specs.List.{list_any, list_all, starts_with}
 use Rattle.std.specs.Str.{bytes_eq}
 use Rattle.tb_types.specs.declared.builtin.Builtin.TheVariants as builtin
@@ -107,12 +107,12 @@ called file parameters words = if begins_with parameters words then None else ca
 abbrev pub imports : List (List ℕ)
 imports =
     codes "std::cell::Cell" ∷ codes "std::cell::UnsafeCell" ∷ codes "std::ptr" ∷ codes "std::mem" ∷ codes "std::slice"
-  ∷ codes "std::mem::size_of" ∷ codes "std::mem::align_of"
-  ∷ codes "core::cell::Cell" ∷ codes "core::cell::UnsafeCell" ∷ codes "core::ptr" ∷ codes "core::mem" ∷ codes "core::slice"
-  ∷ codes "core::mem::size_of" ∷ codes "core::mem::align_of"
-  ∷ codes "std::alloc::alloc" ∷ codes "std::alloc::dealloc" ∷ codes "std::alloc::Layout"
-  ∷ codes "alloc::alloc" ∷ codes "alloc::dealloc" ∷ codes "alloc::Layout"
-  ∷ []
+    ∷ codes "std::mem::size_of" ∷ codes "std::mem::align_of"
+    ∷ codes "core::cell::Cell" ∷ codes "core::cell::UnsafeCell" ∷ codes "core::ptr" ∷ codes "core::mem" ∷ codes "core::slice"
+    ∷ codes "core::mem::size_of" ∷ codes "core::mem::align_of"
+    ∷ codes "std::alloc::alloc" ∷ codes "std::alloc::dealloc" ∷ codes "std::alloc::Layout"
+    ∷ codes "alloc::alloc" ∷ codes "alloc::dealloc" ∷ codes "alloc::Layout"
+    ∷ []
 
 abbrev pub is_text_among : List (List ℕ) → List ℕ → Bool
 is_text_among paths text = list_any (bytes_eq text) paths

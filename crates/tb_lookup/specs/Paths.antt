@@ -1,5 +1,5 @@
 -- Paths as lists of words, and as texts.
-use Rattle.std.specs.Prelude.{ℕ, Bool, if◌then◌else◌, ◌||◌, List, [], ◌∷◌, ◌++◌, map, fold, codes}
+use Rattle.std.specs.Prelude.{ℕ, if◌then◌else◌, ◌||◌, List, [], ◌∷◌, ◌++◌, map, fold, codes}
 use Rattle.std.specs.Str.{bytes_eq}
 use Rattle.tb_ast.specs.declared.leaf.Ident.{Ident}
 use Rattle.tb_names.specs.Names.{name_of}

@@ -88,11 +88,7 @@ fn hides_type(file: &FileNames, word: &Ident) -> bool
     is_named(word, b"Layout") && file.get(word.name.bytes.as_slice()).is_some()
 }
 
-fn call_in(
-    alloc: Global,
-    file: &FileNames,
-    words: &[Ident],
-) -> Result<Option<Callee>, AllocError>
+fn call_in(alloc: Global, file: &FileNames, words: &[Ident]) -> Result<Option<Callee>, AllocError>
     ensures { IfOk result (λ call. call ≡ call_in file.now (words_of words.now)) }
 {
     match words {

@@ -58,13 +58,7 @@ fn behind_alloc(words: &[Ident]) -> &[Ident]
     ensures { words_of result.now ≡ behind_alloc (words_of words.now) }
 {
     match words {
-        [first, rest @ ..] => {
-            if is_named(first, b"alloc") {
-                rest
-            } else {
-                &[]
-            }
-        }
+        [first, rest @ ..] => { if is_named(first, b"alloc") { rest } else { &[] } }
         [] => words,
     }
 }

@@ -79,11 +79,7 @@ fn plain(
 }
 
 /// A type with one argument; with another number of them it counts as `()`.
-fn around(
-    types: &mut Types,
-    wrap: Wrap,
-    arguments: &[Option<Ty>],
-) -> Result<Option<Ty>, AllocError>
+fn around(types: &mut Types, wrap: Wrap, arguments: &[Option<Ty>]) -> Result<Option<Ty>, AllocError>
     requires { AllByRecursion (IsTypeIf types.old) arguments.now }
     ensures { IfOk result (λ found. IsFound types.old types.new found (around wrap (trees_if types.old arguments.now))) }
 {
@@ -161,7 +157,12 @@ pub fn written_type(
             element,
             length,
             ..
-        } => wrapped_type(scope, types, Wrap::Array(length.integer.value), element.get()),
+        } => wrapped_type(
+            scope,
+            types,
+            Wrap::Array(length.integer.value),
+            element.get(),
+        ),
         TypeExpr::Reference {
             mut_keyword,
             target,
