@@ -9,7 +9,7 @@ use Rattle.tb_types.specs.declared.shape.TyShape.{TyShape}
 use Rattle.tb_types.specs.declared.item.Item.{Item}
 use Rattle.tb_lookup.specs.declared.file.Entry.{Entry}
 use Rattle.tb_types.specs.Table.{TypeTable, IsType, Extends, shape_at}
-use Rattle.tb_types.specs.Trees.{TypeTree, TypeTrees, TupleTree, MoreTrees, NoTrees, tree_of, trees_by}
+use Rattle.tb_types.specs.Trees.{TupleTree, MoreTrees, tree_of, trees_by}
 use Rattle.tb_types.specs.Sound.{AreTypes}
 use Rattle.tb_types.proofs.CallerLemmas.{same_type}
 use Rattle.tb_written.specs.Written.{Tree, all_trees, with_first, tuple, joined}

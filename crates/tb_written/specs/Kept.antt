@@ -4,7 +4,7 @@ use Rattle.std.specs.Option.{option_map}
 use Rattle.std.specs.List.{AllByRecursion}
 use Rattle.tb_types.specs.declared.shape.Ty.{Ty}
 use Rattle.tb_types.specs.Table.{TypeTable, IsType, IsDeclared}
-use Rattle.tb_types.specs.Trees.{TypeTree, tree_of}
+use Rattle.tb_types.specs.Trees.{tree_of}
 use Rattle.tb_lookup.specs.declared.file.Entry.{Entry}
 use Rattle.tb_lookup.specs.declared.file.Named.TheVariants.{Struct}
 use Rattle.tb_lookup.specs.declared.ty.TypeName.{TypeName}

@@ -1,12 +1,10 @@
 -- The meaning of a written type as a tree, among the names of a file and the type parameters of a function. It is none where the type depends on a type parameter.
-use Rattle.std.specs.Prelude.{◌≡◌, ℕ, Bool, true, false, List, [], ◌∷◌, ◌++◌, Option, Some, None, is_some}
+use Rattle.std.specs.Prelude.{Bool, true, false, List, [], ◌∷◌, ◌++◌, Option, Some, None, is_some}
 use Rattle.std.specs.Option.{option_map}
-use Rattle.tb_perm.specs.declared.span.Span.{Span}
 use Rattle.tb_types.specs.declared.shape.Ty.{Ty}
 use Rattle.tb_types.specs.declared.shape.TyShape.{TyShape}
 use Rattle.tb_types.specs.declared.shape.TyShape.TheVariants as shape
 use Rattle.tb_types.specs.Trees.{TypeTree, TypeTrees, IntTree, BoolTree, CharTree, UnitTree, TupleTree, ArrayTree, StructTree, RefTree, RawTree, BoxedTree, CellTree, UnsafeCellTree, SliceTree, NoTrees, MoreTrees}
-use Rattle.tb_ast.specs.declared.leaf.IntLiteral.{IntLiteral}
 use Rattle.tb_ast.specs.declared.written.PointerKind.{PointerKind}
 use Rattle.tb_ast.specs.declared.written.PointerKind.TheVariants as pointer
 use Rattle.tb_ast.specs.declared.written.TypeExpr.{TypeExpr}

@@ -1,6 +1,5 @@
-use Rattle.std.proofs.Common.{map, drop, ◌+◌, ◌∷◌, [], if◌then◌else◌}
 use Rattle.tb_names.specs.Names.{names_of, told}
-use Rattle.tb_written.specs.Written.{written, argument_trees, joined}
+use Rattle.tb_written.specs.Written.{written, argument_trees}
 use Rattle.tb_written.proofs.Keeping.{one_more, more_before, next_joined, next_mapped}
 use Rattle.tb_written.proofs.made.+types.Goals as goal
 

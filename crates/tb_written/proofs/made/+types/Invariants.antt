@@ -1,4 +1,4 @@
-use Rattle.std.proofs.Common.{◌≡◌, ◌++◌, [], drop, map}
+use Rattle.std.proofs.Common.{drop, map}
 use Rattle.tb_names.specs.Names.{names_of, told}
 use Rattle.tb_written.specs.Written.{written, argument_trees, joined}
 use Rattle.tb_written.specs.Kept.{IsMoreBefore}

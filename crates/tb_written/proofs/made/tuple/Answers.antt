@@ -1,4 +1,4 @@
-use Rattle.std.proofs.Common.{◌≡◌, sym, ap, ◌∙◌}
+use Rattle.std.proofs.Common.{sym, ap, ◌∙◌}
 use Rattle.std.specs.Option.{option_map}
 use Rattle.tb_written.proofs.Keeping.{all_types_are, tuple_found, no_tuple}
 use Rattle.tb_written.proofs.made.tuple.Goals as goal
