@@ -1,0 +1,4 @@
+pub mod Bounds
+pub mod Spreading
+pub mod Steps
+pub mod Kept

@@ -1,0 +1,6 @@
+pub mod Kinds
+pub mod Numbers
+pub mod Scalars
+pub mod Copies
+pub mod Spread
+pub mod Provs
