@@ -1,0 +1,15 @@
+use Rattle.std.proofs.Common.{sym, ◌∙◌, ap, subst, [], map, None}
+use Rattle.tb_store.specs.Store.{Blocks, kept_bytes, with_nth, AreBlocks}
+use Rattle.tb_store.proofs.Places.{map_with}
+use Rattle.tb_store.proofs.Blocks.{blocks_gone}
+use Rattle.tb_store.proofs.store.Store.kill.Goals as goal
+
+pub returns-clause-contents : goal.returns-clause-contents
+returns-clause-contents c =
+    ap (map kept_bytes) c.empty.ensures ∙ map_with kept_bytes c.self.inside.entries.items c.args.id.0 None
+    ∙ ap (λ (blocks : Blocks). with_nth blocks.contents c.args.id.0 []) c.self.view_is
+
+pub invariant_of-self : goal.invariant_of-self
+invariant_of-self c =
+    subst (AreBlocks c.kill.new.self) (sym (ap (map kept_bytes) c.empty.ensures ∙ map_with kept_bytes c.self.inside.entries.items c.args.id.0 None))
+    (blocks_gone c.self.inside.table c.kill.new.self (map kept_bytes c.self.inside.entries.items) c.args.id.0 c.self.invariant c.kill.ensures.count c.kill.ensures.dead c.kill.ensures.others)
