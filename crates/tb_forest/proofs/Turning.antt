@@ -1,5 +1,7 @@
 -- A tree that is taken out, changed, and put back.
-use Rattle.std.proofs.Common.{◌≡◌, sym, ◌∙◌, ap, ℕ, zero, suc, ◌<◌, ◌≤◌, List, [], ◌∷◌, length, map, Option, Some, None, arith}
+use Rattle.std.proofs.Common.{◌≡◌, refl, sym, ◌∙◌, ap, subst, ℕ, zero, suc, ◌+◌, ◌-◌, ◌<◌, ◌≤◌, List, [], ◌∷◌, ◌++◌, length, take, map, Option, Some, None, arith}
+use Rattle.std.specs.List.{take-map}
+use Rattle.std.proofs.lemmas.List.{length-append, length-map}
 use Rattle.tb_perm.specs.Rows.{Row, HasTag, IsRows}
 use Rattle.tb_store.specs.Store.{nth, with_nth}
 use Rattle.tb_store.proofs.Places.{nth_map, map_with, with_twice, with_found}
@@ -50,3 +52,26 @@ module _ {T : Type 0} (rows : T → List Row) (extent : T → ℕ) (notes : T �
   all_rows (None ∷ trees) kept (suc zero) t has = cc
   all_rows (Some tree ∷ trees) kept (suc zero) t has = kept.0.grown
   all_rows (x ∷ trees) kept (suc (suc i)) t has = all_rows trees kept.1 (suc i) t has
+
+  -- the last one is taken back
+  kept_take : (n : ℕ) (trees : List (Option T)) → AreKept rows extent notes trees → AreKept rows extent notes (take n trees)
+  kept_take zero [] kept = tt
+  kept_take zero (x ∷ trees) kept = tt
+  kept_take (suc n) [] kept = tt
+  kept_take (suc n) (x ∷ trees) kept = (kept.0, kept_take n trees kept.1)
+
+  pub kept_back : (n : ℕ) (trees left : List (Option T)) → AreKept rows extent notes trees → left ≡ take n trees → AreKept rows extent notes left
+  kept_back n trees left kept e = subst (AreKept rows extent notes) (sym e) (kept_take n trees kept)
+
+  front_of : (front : List TreeRows) (last : TreeRows) (n : ℕ) → suc n ≡ length (front ++ last ∷ []) → take n (front ++ last ∷ []) ≡ front
+  front_of [] last zero e = refl
+  front_of [] last (suc n) e = absurd (omega arith)
+  front_of (x ∷ front) last zero e = let more : length (front ++ last ∷ []) ≡ length front + 1 = length-append front (last ∷ []) in absurd (omega arith)
+  front_of (x ∷ front) last (suc n) e = ap (λ (rest : List TreeRows). x ∷ rest) (front_of front last n (omega arith))
+
+  pub taken_back : (len : ℕ) (trees left : List (Option T)) (forest front : List TreeRows) (last : TreeRows) → seen trees ≡ forest → left ≡ take (len - 1) trees → len ≡ length trees → forest ≡ front ++ last ∷ [] → seen left ≡ front
+  taken_back len trees left forest front last view e long is =
+      let same : length (seen trees) ≡ length trees = length-map trees (tree_in rows extent) in
+      let all : length (seen trees) ≡ length (front ++ last ∷ []) = ap length (view ∙ is) in
+      let more : length (front ++ last ∷ []) ≡ length front + 1 = length-append front (last ∷ []) in
+      ap seen e ∙ sym (take-map (tree_in rows extent) (len - 1) trees) ∙ ap (take (len - 1)) (view ∙ is) ∙ front_of front last (len - 1) (let whole : suc (len - 1) ≡ length (front ++ last ∷ []) = omega arith in whole)

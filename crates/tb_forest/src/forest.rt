@@ -1,4 +1,4 @@
-ghost use Rattle.std.specs.Prelude.{◌≡◌, ◌<◌, ◌≤◌, ◌++◌, ◌∷◌, [], ℕ, length, All, IfOk, OnOk, OnErr};
+ghost use Rattle.std.specs.Prelude.{◌≡◌, ◌<◌, ◌≤◌, ◌++◌, ◌∷◌, [], ℕ, List, length, All, IfOk, OnOk, OnErr};
 ghost use Rattle.tb_perm.specs.Rows.{Row, HasTag, IsRows, root_row, unguarded};
 ghost use Rattle.tb_perm.specs.Answer.{Answers, OnBorrow, OnMemory};
 ghost use Rattle.tb_perm.specs.Access.{accessed, access_report};
@@ -34,6 +34,8 @@ impl<T: BorrowTree> Model for Forest<T> {
 }
 
 impl<T: BorrowTree> Forest<T> {
+    ghost use Rattle.tb_forest.specs.Forest.{TreeRows};
+
     /// No tree yet.
     pub fn new(alloc: Global) -> Forest<T>
         ensures { result ≡ [] }
@@ -56,6 +58,14 @@ impl<T: BorrowTree> Forest<T> {
     {
         let tree = T::root(alloc, size, tag, made)?;
         push(&mut self.trees, tree)
+    }
+
+    /// Takes back the tree that was made last.
+    pub fn uproot(&mut self)
+        requires { 0 < length self.old }
+        ensures { (front : List TreeRows) (last : TreeRows) → self.old ≡ front ++ last ∷ [] → self.new ≡ front }
+    {
+        let _tree = self.trees.pop();
     }
 
     /// An access through the tag to the bytes from `lo` to before `hi`.

@@ -1,0 +1,7 @@
+//! The memory of a run: allocations with their bytes and the trees of their tags, what the running calls guard, and
+//! what each event does to one allocation.
+#![tactic(auto)]
+
+mod memory;
+
+pub use memory::Memory;

@@ -1,0 +1,209 @@
+ghost use Rattle.std.specs.Prelude.{◌≡◌, ◌<◌, ◌≤◌, ◌+◌, ◌^◌, true, Some, length, IfOk, OnOk, OnErr, IsErrOf};
+ghost use Rattle.std.specs.List.{slice_range, splice};
+ghost use Rattle.tb_perm.specs.Answer.{Answers, OnBorrow, OnMemory};
+ghost use Rattle.tb_perm.specs.Access.{accessed, access_report};
+ghost use Rattle.tb_perm.specs.Deallocation.{dealloc_report};
+ghost use Rattle.tb_alloc.specs.declared.allocation.Allocation.{Allocation};
+ghost use Rattle.tb_alloc.specs.Allocations.{allocation_at, live_bytes_of, live_limit};
+ghost use Rattle.tb_value.specs.Provs.{all_pass};
+ghost use Rattle.tb_store.specs.Store.{bytes_at};
+
+use std::alloc::{AllocError as MemoryError, Global};
+use std::marker::Model;
+use std::sync::ledger::Ledger;
+use tb_alloc::{AllocError, AllocKind, Allocs, Ptr};
+use tb_bytes::ByteVal;
+use tb_forest::Forest;
+use tb_perm::{AllocId, BorrowTree, Kind, Prov, Span, Steps, Tag, TreeError};
+use tb_protect::Protectors;
+use tb_store::Store;
+
+/// The memory of a run. Contracts see the table of its allocations, the bytes and the rows of each, how many tags were
+/// drawn, and what the running calls guard.
+///
+/// After want of memory the allocation that was to be changed is dead, so that the memory is still sound, and good to be
+/// dropped.
+#[derive(Drop)]
+pub struct Memory<T: BorrowTree> {
+    alloc: Global,
+    store: Store,
+    forest: Forest<T>,
+    tags: u64,
+    frames: Protectors,
+}
+
+impl<T: BorrowTree> Model for Memory<T> {
+    ghost use Rattle.tb_events.specs.Memory.{RunMemory};
+    ghost use Rattle.tb_events.specs.Sound.{IsSound};
+
+    ghost Value = { RunMemory };
+
+    ghost view = { λ m. record { table = m.store.table; contents = m.store.contents; trees = m.forest; tags = m.tags; frames = m.frames } };
+
+    ghost invariant = { λ m. IsSound (record { table = m.store.table; contents = m.store.contents; trees = m.forest; tags = m.tags; frames = m.frames }) };
+}
+
+/// Where an allocation begins.
+fn base_at(table: &Allocs, id: AllocId) -> u64
+    ensures { (a : Allocation) → allocation_at table.now id.0 ≡ Some a → result ≡ a.base }
+{
+    match table.get(id) {
+        Some(found) => found.base,
+        None => 0,
+    }
+}
+
+impl<T: BorrowTree> Memory<T> {
+    ghost use Rattle.tb_forest.specs.Forest.{TreeRows};
+    ghost use Rattle.tb_events.specs.Memory.{no_memory, rows_at, size_at, reaches, knows, with_made, made_pointer, with_rows, with_bytes, without};
+    ghost use Rattle.tb_events.specs.Sound.{IsSound};
+
+    /// A memory without allocations and calls.
+    pub fn new(alloc: Global) -> Result<Memory<T>, MemoryError>
+        ensures { IfOk result (λ memory. memory ≡ no_memory) }
+    {
+        let frames = Protectors::new(alloc)?;
+        Ok(Memory {
+            alloc,
+            store: Store::new(alloc),
+            forest: Forest::new(alloc),
+            tags: 0,
+            frames,
+        })
+    }
+
+    /// The table of the allocations, by which accesses, moved pointers and frees are checked.
+    pub fn table(&self) -> &Allocs
+        ensures { result.now ≡ self.now.table }
+    {
+        self.store.table()
+    }
+
+    /// What is true of every memory.
+    pub fn law_memory(&self)
+        ensures { IsSound self.now }
+    {
+        let _ = &self.tags;
+    }
+
+    /// Makes an allocation, live, its bytes uninitialised, and draws its root tag. The pointer points to its first
+    /// byte. After either error nothing has changed.
+    pub fn make(
+        &mut self,
+        size: u32,
+        align: u32,
+        kind: AllocKind,
+        made: Span,
+    ) -> Result<Ptr, AllocError>
+        requires align { 0 < align }
+        requires tags { self.old.tags < 2 ^ 62 }
+        ensures pointer { IfOk result (λ ptr. ptr ≡ made_pointer self.old align) }
+        ensures memory { OnOk result (self.new ≡ with_made self.old size align kind made) }
+        ensures limit { IsErrOf result AllocError.LiveLimit → live_limit < live_bytes_of self.old.table + size }
+        ensures fits { OnOk result (live_bytes_of self.old.table + size ≤ live_limit) }
+        ensures err { OnErr result (self.new ≡ self.old) }
+    {
+        let tag = self.tags + 1;
+        let Ok(()) = self.forest.plant(self.alloc, size, Tag(tag), made) else {
+            return Err(AllocError::Memory);
+        };
+        match self.store.allocate(size, align, kind, made) {
+            Ok(alloc) => {
+                self.tags = tag;
+                let addr = base_at(self.store.table(), alloc);
+                let prov = Prov {
+                    alloc,
+                    tag: Tag(tag),
+                };
+                Ok(Ptr {
+                    addr,
+                    prov: Some(prov),
+                })
+            }
+            Err(error) => {
+                self.forest.uproot();
+                Err(error)
+            }
+        }
+    }
+
+    /// An access through a provenance to the bytes of its allocation from `lo` to before `hi`.
+    pub fn access<L: Ledger>(
+        &mut self,
+        prov: Prov,
+        lo: u32,
+        hi: u32,
+        kind: Kind,
+        steps: &mut Steps<L>,
+    ) -> Result<(), TreeError>
+        requires prov { reaches self.old prov ≡ true }
+        requires range { lo ≤ hi }
+        requires end { hi ≤ size_at self.old prov.alloc.0 }
+        ensures moved { OnOk result (self.new ≡ with_rows self.old prov.alloc.0 (λ (tree : TreeRows). accessed tree.rows prov.tag.0 lo hi kind)) }
+        ensures answer { Answers (access_report (rows_at self.old prov.alloc.0) (size_at self.old prov.alloc.0) prov.tag.0 lo hi kind) result }
+        ensures refused { OnBorrow result (self.new ≡ self.old) }
+        ensures gone { OnMemory result (self.new ≡ without self.old prov.alloc.0) }
+        ensures counted { steps.old ≤ steps.new }
+    {
+        match self
+            .forest
+            .access(prov.alloc, prov.tag, lo, hi, kind, steps)
+        {
+            Ok(()) => Ok(()),
+            Err(TreeError::Borrow(report)) => Err(TreeError::Borrow(report)),
+            Err(TreeError::Memory) => {
+                self.store.kill(prov.alloc);
+                Err(TreeError::Memory)
+            }
+        }
+    }
+
+    /// A deallocation through a provenance, after which its allocation is dead.
+    pub fn end<L: Ledger>(&mut self, prov: Prov, steps: &mut Steps<L>) -> Result<(), TreeError>
+        requires { reaches self.old prov ≡ true }
+        ensures done { OnOk result (self.new ≡ without self.old prov.alloc.0) }
+        ensures answer { Answers (dealloc_report (rows_at self.old prov.alloc.0) (size_at self.old prov.alloc.0) prov.tag.0) result }
+        ensures refused { OnBorrow result (self.new ≡ self.old) }
+        ensures gone { OnMemory result (self.new ≡ without self.old prov.alloc.0) }
+        ensures counted { steps.old ≤ steps.new }
+    {
+        match self.forest.fell(prov.alloc, prov.tag, steps) {
+            Ok(()) => {
+                self.store.kill(prov.alloc);
+                Ok(())
+            }
+            Err(TreeError::Borrow(report)) => Err(TreeError::Borrow(report)),
+            Err(TreeError::Memory) => {
+                self.store.kill(prov.alloc);
+                Err(TreeError::Memory)
+            }
+        }
+    }
+
+    /// The bytes of an allocation from `lo` to before `hi`.
+    pub fn read(&self, prov: Prov, lo: u32, hi: u32) -> Result<Vec<ByteVal>, MemoryError>
+        requires prov { reaches self.now prov ≡ true }
+        requires order { lo ≤ hi }
+        requires within { hi ≤ size_at self.now prov.alloc.0 }
+        ensures { IfOk result (λ bytes. bytes.items ≡ slice_range (bytes_at self.now.contents prov.alloc.0) lo hi) }
+    {
+        self.store.read(prov.alloc, lo, hi)
+    }
+
+    /// Writes bytes of an allocation from `lo` on. Each provenance among them is known.
+    pub fn write(&mut self, prov: Prov, lo: u32, bytes: &[ByteVal]) -> Result<(), MemoryError>
+        requires prov { reaches self.old prov ≡ true }
+        requires within { lo + length bytes.now ≤ size_at self.old prov.alloc.0 }
+        requires known { all_pass (knows self.old) bytes.now ≡ true }
+        ensures ok { OnOk result (self.new ≡ with_bytes self.old prov.alloc.0 (splice (bytes_at self.old.contents prov.alloc.0) lo (lo + length bytes.now) bytes.now)) }
+        ensures gone { OnErr result (self.new ≡ without self.old prov.alloc.0) }
+    {
+        match self.store.write(prov.alloc, lo, bytes) {
+            Ok(()) => Ok(()),
+            Err(error) => {
+                self.forest.clear(prov.alloc);
+                Err(error)
+            }
+        }
+    }
+}
