@@ -229,3 +229,30 @@ kept_splice memory prov lo bytes sound h within known =
     (length-splice old bytes lo (lo + length bytes) (omega arith) (let high : lo + length bytes ≤ length (bytes_at memory.contents prov.alloc.0) = omega arith in high) (omega arith))
     (pass_both (knows memory) (take lo old) (bytes ++ drop (lo + length bytes) old) (pass_take (knows memory) lo old (sound.known prov.alloc.0))
     (pass_both (knows memory) bytes (drop (lo + length bytes) old) known (pass_drop (knows memory) (lo + length bytes) old (sound.known prov.alloc.0))))
+
+-- and what is known and reached stays so
+pub known_event : (memory : RunMemory) (prov : Prov) (event : TreeRows → Event) → IsSound memory → reaches memory prov ≡ true → (asked : Prov) → knows (with_rows memory prov.alloc.0 (λ (tree : TreeRows). after (event tree) tree.rows)) asked ≡ knows memory asked
+known_event memory prov event sound h asked =
+    let found : (a : Allocation) × (live_at memory.table prov.alloc.0 ≡ Some a) = found_live memory prov h in
+    let tree : TreeRows = tree_at memory.trees prov.alloc.0 in
+    same_knows memory prov.alloc.0 found.0 (λ (t : TreeRows). after (event t) t.rows) sound found.1 (after-keeps (event tree) (rows_at memory prov.alloc.0)) asked
+
+pub reached_event : (memory : RunMemory) (prov : Prov) (event : TreeRows → Event) → IsSound memory → reaches memory prov ≡ true → reaches (with_rows memory prov.alloc.0 (λ (tree : TreeRows). after (event tree) tree.rows)) prov ≡ true
+reached_event memory prov event sound h =
+    let found : (a : Allocation) × (live_at memory.table prov.alloc.0 ≡ Some a) = found_live memory prov h in
+    let tree : TreeRows = tree_at memory.trees prov.alloc.0 in
+    ap (λ has. is_some (live_at memory.table prov.alloc.0) && has)
+    (same_tags memory prov.alloc.0 found.0 (λ (t : TreeRows). after (event t) t.rows) sound found.1 (after-keeps (event tree) (rows_at memory prov.alloc.0)) prov.alloc.0 prov.tag.0) ∙ h
+
+-- a known provenance of a live allocation reaches it
+pub reach : (memory : RunMemory) (prov : Prov) (a : Allocation) → live_at memory.table prov.alloc.0 ≡ Some a → knows memory prov ≡ true → reaches memory prov ≡ true
+reach memory prov a live known =
+    both (is_some (live_at memory.table prov.alloc.0)) (has_tag (rows_at memory prov.alloc.0) prov.tag.0) (ap is_some live) (by_found (allocation_at memory.table prov.alloc.0) live known)
+  where
+    by_live : (b : Allocation) (now : Bool) → cond now (Some b) None ≡ Some a → (not now || has_tag (rows_at memory prov.alloc.0) prov.tag.0) ≡ true → has_tag (rows_at memory prov.alloc.0) prov.tag.0 ≡ true
+    by_live b true e k = k
+    by_live b false e k = absurd cc
+
+    by_found : (found : Option Allocation) → if_live found ≡ Some a → knows_in found (rows_at memory prov.alloc.0) prov.tag.0 ≡ true → has_tag (rows_at memory prov.alloc.0) prov.tag.0 ≡ true
+    by_found None e k = absurd cc
+    by_found (Some b) e k = by_live b b.live e k

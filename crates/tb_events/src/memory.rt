@@ -1,5 +1,6 @@
 ghost use Rattle.std.specs.Prelude.{◌≡◌, ◌<◌, ◌≤◌, ◌+◌, ◌^◌, true, Some, length, IfOk, OnOk, OnErr, IsErrOf};
 ghost use Rattle.std.specs.List.{slice_range, splice};
+ghost use Rattle.tb_perm.specs.declared.tag.Prov.{Prov};
 ghost use Rattle.tb_perm.specs.Answer.{Answers, OnBorrow, OnMemory};
 ghost use Rattle.tb_perm.specs.Access.{accessed, access_report};
 ghost use Rattle.tb_perm.specs.Deallocation.{dealloc_report};
@@ -79,6 +80,16 @@ impl<T: BorrowTree> Memory<T> {
         self.store.table()
     }
 
+    /// How many bytes an allocation has; none where its number was not given yet.
+    pub fn size(&self, id: AllocId) -> u32
+        ensures { result ≡ size_at self.now id.0 }
+    {
+        match self.store.table().get(id) {
+            Some(found) => found.size,
+            None => 0,
+        }
+    }
+
     /// What is true of every memory.
     pub fn law_memory(&self)
         ensures { IsSound self.now }
@@ -143,6 +154,8 @@ impl<T: BorrowTree> Memory<T> {
         ensures answer { Answers (access_report (rows_at self.old prov.alloc.0) (size_at self.old prov.alloc.0) prov.tag.0 lo hi kind) result }
         ensures refused { OnBorrow result (self.new ≡ self.old) }
         ensures gone { OnMemory result (self.new ≡ without self.old prov.alloc.0) }
+        ensures reached { OnOk result (reaches self.new prov ≡ true) }
+        ensures known { OnOk result ((asked : Prov) → knows self.new asked ≡ knows self.old asked) }
         ensures counted { steps.old ≤ steps.new }
     {
         match self

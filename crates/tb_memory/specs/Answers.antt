@@ -1,0 +1,23 @@
+-- How a call answers what it comes to.
+use Rattle.std.specs.Prelude.{◌≡◌, ◌⊎◌, ℕ, ◌+◌, ◌<◌, ◌≤◌, true, Option, Some, None, Result, Ok, Err}
+use Rattle.tb_perm.specs.declared.tag.Prov.{Prov}
+use Rattle.tb_events.specs.Memory.{RunMemory, size_at, reaches}
+use Rattle.tb_memory.specs.declared.stop.Stop.{Stop}
+use Rattle.tb_memory.specs.declared.stop.Stop.TheVariants.{Memory}
+use Rattle.tb_memory.specs.Heap.{Came, Done, Stopped}
+
+-- the answer and what stands after it are those that the call comes to
+abbrev pub Agrees : {A : Type 0} → Came A → Result A Stop → RunMemory → Type 0
+Agrees (Done memory value) (Ok answer) now = (answer ≡ value) × (now ≡ memory)
+Agrees (Stopped memory stop) (Err told) now = (told ≡ stop) × (now ≡ memory)
+Agrees (Done memory value) (Err told) now = ⊥
+Agrees (Stopped memory stop) (Ok answer) now = ⊥
+
+-- or memory was wanting
+abbrev pub Answers : {A : Type 0} → Came A → Result A Stop → RunMemory → Type 0
+Answers came result now = (result ≡ Err Memory) ⊎ Agrees came result now
+
+-- the bytes that an access went to can be read and written
+abbrev pub IsWithin : RunMemory → Option Prov → ℕ → ℕ → Type 0
+IsWithin memory None offset size = size ≡ 0
+IsWithin memory (Some prov) offset size = 0 < size → (reaches memory prov ≡ true) × (offset + size ≤ size_at memory prov.alloc.0)
