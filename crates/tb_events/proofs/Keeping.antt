@@ -1,7 +1,7 @@
 -- What is true of a memory stays true when one of its allocations changes.
-use Rattle.std.proofs.Common.{◌≡◌, ◌≢◌, refl, sym, ◌∙◌, ap, subst, inl, inr, ◌⊎◌, ℕ, zero, suc, ◌+◌, ◌<◌, ◌≤◌, Bool, true, false, true≢false, cond, not, ◌&&◌, ◌||◌, List, [], ◌∷◌, ◌++◌, length, take, drop, Option, Some, None, is_some, option_map, arith}
+use Rattle.std.proofs.Common.{IfOk, Err, Ok, Result, ◌-◌, ◌≡◌, ◌≢◌, refl, sym, ◌∙◌, ap, subst, inl, inr, ◌⊎◌, ℕ, zero, suc, ◌+◌, ◌<◌, ◌≤◌, Bool, true, false, true≢false, cond, not, ◌&&◌, ◌||◌, List, [], ◌∷◌, ◌++◌, length, take, drop, Option, Some, None, is_some, option_map, arith}
 use Rattle.std.specs.Cmp.{first_so, second_so}
-use Rattle.std.specs.List.{AllByRecursion, list_all, list_any, splice}
+use Rattle.std.specs.List.{slice_range, AllByRecursion, list_all, list_any, splice}
 use Rattle.std.proofs.lemmas.List.{length-append}
 use Rattle.tb_perm.specs.declared.span.Span.{Span}
 use Rattle.tb_perm.specs.declared.tag.Prov.{Prov}
@@ -25,6 +25,7 @@ use Rattle.tb_store.proofs.Places.{same_or_not, nth_same, nth_other, length_with
 use Rattle.tb_store.proofs.Blocks.{made_within, live_made, blocks_gone, blocks_written}
 use Rattle.tb_forest.specs.Forest.{TreeRows, no_tree, tree_at, changed, felled}
 use Rattle.tb_bytes.proofs.Splices.{length-splice}
+use Rattle.tb_bytes.proofs.Marking.{length_part}
 use Rattle.tb_perm.specs.Event.{Event, after}
 use Rattle.tb_perm.proofs.Kept.{after-keeps}
 use Rattle.tb_prune.proofs.GuardLaws.{guards_event}
@@ -256,3 +257,18 @@ reach memory prov a live known =
     by_found : (found : Option Allocation) → if_live found ≡ Some a → knows_in found (rows_at memory prov.alloc.0) prov.tag.0 ≡ true → has_tag (rows_at memory prov.alloc.0) prov.tag.0 ≡ true
     by_found None e k = absurd cc
     by_found (Some b) e k = by_live b b.live e k
+
+-- bytes that are read: there are as many as were asked for, and their provenances are known
+pub read_size : (memory : RunMemory) (prov : Prov) (lo hi : ℕ) → IsSound memory → reaches memory prov ≡ true → hi ≤ size_at memory prov.alloc.0 → length (slice_range (bytes_at memory.contents prov.alloc.0) lo hi) ≡ hi - lo
+read_size memory prov lo hi sound h within =
+    let found : (a : Allocation) × (live_at memory.table prov.alloc.0 ≡ Some a) = found_live memory prov h in
+    let long : length (bytes_at memory.contents prov.alloc.0) ≡ size_at memory prov.alloc.0 = sound.blocks.sizes prov.alloc.0 found.0 found.1 ∙ sym (ap size_in (live_made (allocation_at memory.table prov.alloc.0) found.0 found.1)) in
+    length_part (bytes_at memory.contents prov.alloc.0) lo hi (omega arith)
+
+pub read_known : (memory : RunMemory) (prov : Prov) (lo hi : ℕ) → IsSound memory → all_pass (knows memory) (slice_range (bytes_at memory.contents prov.alloc.0) lo hi) ≡ true
+read_known memory prov lo hi sound =
+    pass_take (knows memory) (hi - lo) (drop lo (bytes_at memory.contents prov.alloc.0)) (pass_drop (knows memory) lo (bytes_at memory.contents prov.alloc.0) (sound.known prov.alloc.0))
+
+pub if_ok : {T E : Type 0} {P Q : T → Type 0} (result : Result T E) → ((x : T) → P x → Q x) → IfOk result P → IfOk result Q
+if_ok (Ok x) f p = f x p
+if_ok (Err e) f p = tt

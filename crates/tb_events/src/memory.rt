@@ -1,4 +1,4 @@
-ghost use Rattle.std.specs.Prelude.{◌≡◌, ◌<◌, ◌≤◌, ◌+◌, ◌^◌, true, Some, length, IfOk, OnOk, OnErr, IsErrOf};
+ghost use Rattle.std.specs.Prelude.{◌≡◌, ◌<◌, ◌≤◌, ◌+◌, ◌-◌, ◌^◌, true, Some, length, IfOk, OnOk, OnErr, IsErrOf};
 ghost use Rattle.std.specs.List.{slice_range, splice};
 ghost use Rattle.tb_perm.specs.declared.tag.Prov.{Prov};
 ghost use Rattle.tb_perm.specs.Answer.{Answers, OnBorrow, OnMemory};
@@ -198,7 +198,9 @@ impl<T: BorrowTree> Memory<T> {
         requires prov { reaches self.now prov ≡ true }
         requires order { lo ≤ hi }
         requires within { hi ≤ size_at self.now prov.alloc.0 }
-        ensures { IfOk result (λ bytes. bytes.items ≡ slice_range (bytes_at self.now.contents prov.alloc.0) lo hi) }
+        ensures value { IfOk result (λ bytes. bytes.items ≡ slice_range (bytes_at self.now.contents prov.alloc.0) lo hi) }
+        ensures size { IfOk result (λ bytes. length bytes.items ≡ hi - lo) }
+        ensures known { IfOk result (λ bytes. all_pass (knows self.now) bytes.items ≡ true) }
     {
         self.store.read(prov.alloc, lo, hi)
     }

@@ -4,7 +4,11 @@ use Rattle.tb_perm.specs.declared.tag.Prov.{Prov}
 use Rattle.tb_events.specs.Memory.{RunMemory, size_at, reaches}
 use Rattle.tb_memory.specs.declared.stop.Stop.{Stop}
 use Rattle.tb_memory.specs.declared.stop.Stop.TheVariants.{Memory}
-use Rattle.tb_memory.specs.Heap.{Came, Done, Stopped}
+use Rattle.tb_memory.specs.Heap.{Came, Done, Stopped, tree_stop, alloc_stop}
+use Rattle.tb_perm.specs.declared.tag.AllocId.{AllocId}
+use Rattle.tb_perm.specs.declared.report.TreeError.{TreeError}
+use Rattle.tb_alloc.specs.declared.ptr.Ptr.{Ptr}
+use Rattle.tb_alloc.specs.declared.faults.AllocError.{AllocError}
 
 -- the answer and what stands after it are those that the call comes to
 abbrev pub Agrees : {A : Type 0} → Came A → Result A Stop → RunMemory → Type 0
@@ -21,3 +25,13 @@ Answers came result now = (result ≡ Err Memory) ⊎ Agrees came result now
 abbrev pub IsWithin : RunMemory → Option Prov → ℕ → ℕ → Type 0
 IsWithin memory None offset size = size ≡ 0
 IsWithin memory (Some prov) offset size = 0 < size → (reaches memory prov ≡ true) × (offset + size ≤ size_at memory prov.alloc.0)
+
+-- what a tree answers, told on
+abbrev pub told : {A : Type 0} → AllocId → A → Result (Unit {0}) TreeError → Result A Stop
+told alloc answer (Ok done) = Ok answer
+told alloc answer (Err error) = Err (tree_stop alloc error)
+
+-- what an allocation answers, told on
+abbrev pub told_made : Result Ptr AllocError → Result Ptr Stop
+told_made (Ok ptr) = Ok ptr
+told_made (Err error) = Err (alloc_stop error)

@@ -3,10 +3,13 @@
 use Rattle.std.specs.Prelude.{ℕ, ◌+◌, cond, nat_lt, ◌==◌, List, [], ◌∷◌, length, Option, Some, None, Result, Ok, Err}
 use Rattle.std.specs.List.{slice_range, splice}
 use Rattle.tb_perm.specs.declared.span.Span.{Span}
+use Rattle.tb_perm.specs.declared.tag.AllocId.{AllocId}
 use Rattle.tb_perm.specs.declared.tag.Prov.{Prov}
 use Rattle.tb_perm.specs.declared.perm.Kind.{Kind}
 use Rattle.tb_perm.specs.declared.perm.Kind.TheVariants.{Read, Write}
 use Rattle.tb_perm.specs.declared.report.Report.{Report}
+use Rattle.tb_perm.specs.declared.report.TreeError.{TreeError}
+use Rattle.tb_perm.specs.declared.report.TreeError.TheVariants as tree_error
 use Rattle.tb_perm.specs.Access.{accessed, access_report}
 use Rattle.tb_perm.specs.Deallocation.{dealloc_report}
 use Rattle.tb_bytes.specs.declared.byte_val.ByteVal.{ByteVal}
@@ -15,6 +18,8 @@ use Rattle.tb_alloc.specs.declared.allocation.AllocKind.{AllocKind}
 use Rattle.tb_alloc.specs.declared.ptr.Ptr.{Ptr}
 use Rattle.tb_alloc.specs.declared.faults.AccessFault.{AccessFault}
 use Rattle.tb_alloc.specs.declared.faults.AccessFault.TheVariants as access_fault
+use Rattle.tb_alloc.specs.declared.faults.AllocError.{AllocError}
+use Rattle.tb_alloc.specs.declared.faults.AllocError.TheVariants as alloc_error
 use Rattle.tb_alloc.specs.declared.faults.FreeFault.{FreeFault}
 use Rattle.tb_alloc.specs.declared.faults.FreeFault.TheVariants as free_fault
 use Rattle.tb_alloc.specs.Allocations.{live_bytes_of, live_limit}
@@ -47,6 +52,11 @@ abbrev pub access_stop : AccessFault → Stop
 access_stop access_fault.Dangling = Dangling
 access_stop access_fault.OutOfBounds = OutOfBounds
 access_stop access_fault.Misaligned = Misaligned
+
+-- what a tree answers, as a stop
+abbrev pub tree_stop : AllocId → TreeError → Stop
+tree_stop alloc (tree_error.Borrow report) = Borrow alloc report
+tree_stop alloc tree_error.Memory = Memory
 
 -- a refusal stops the call, and nothing has changed
 abbrev pub unless_refused : {A : Type 0} → RunMemory → Prov → Option Report → Came A → Came A
@@ -106,6 +116,11 @@ abbrev pub stored : RunMemory → TypeTable → Ptr → Ty → List ByteVal → 
 stored memory types ptr ty bytes =
     and_then (access memory ptr (extent_of types ty).size (extent_of types ty).align Write)
     (λ now offset. Done (written now ptr.prov offset (typed_copy types ty bytes)) tt)
+
+-- why an allocation is not made, as a stop
+abbrev pub alloc_stop : AllocError → Stop
+alloc_stop alloc_error.LiveLimit = LiveLimit
+alloc_stop alloc_error.Memory = Memory
 
 -- an allocation, unless the live bytes would pass the limit
 abbrev pub made : RunMemory → ℕ → ℕ → AllocKind → Span → Came Ptr

@@ -1,8 +1,9 @@
 ghost use Rattle.std.specs.Prelude.{◌≡◌};
-ghost use Rattle.tb_memory.specs.Heap.{access_stop, free_stop, value_stop};
+ghost use Rattle.tb_memory.specs.Heap.{access_stop, tree_stop, alloc_stop, free_stop, value_stop};
+ghost use Rattle.tb_memory.specs.Answers.{told, told_made};
 
-use tb_alloc::{AccessFault, FreeFault};
-use tb_perm::{AllocId, Report};
+use tb_alloc::{AccessFault, AllocError, FreeFault, Ptr};
+use tb_perm::{AllocId, Report, TreeError};
 use tb_value::ValueFault;
 
 /// Why a call on memory is undefined behaviour (Rust Reference, "Behavior considered undefined"), or why it could not be
@@ -40,6 +41,26 @@ pub fn access_stop(fault: AccessFault) -> Stop
     }
 }
 
+/// Why an event on the tree of this allocation did not happen.
+fn tree_stop(alloc: AllocId, error: TreeError) -> Stop
+    ensures { result ≡ tree_stop alloc error }
+{
+    match error {
+        TreeError::Borrow(report) => Stop::Borrow(alloc, report),
+        TreeError::Memory => Stop::Memory,
+    }
+}
+
+/// Why an allocation was not made.
+fn alloc_stop(error: AllocError) -> Stop
+    ensures { result ≡ alloc_stop error }
+{
+    match error {
+        AllocError::LiveLimit => Stop::LiveLimit,
+        AllocError::Memory => Stop::Memory,
+    }
+}
+
 /// Why a block was not freed.
 pub fn free_stop(fault: FreeFault) -> Stop
     ensures { result ≡ free_stop fault }
@@ -58,5 +79,35 @@ pub fn value_stop(fault: ValueFault) -> Stop
         ValueFault::Uninit(_) => Stop::Uninit,
         ValueFault::Invalid(_) => Stop::InvalidValue,
         ValueFault::Memory => Stop::Memory,
+    }
+}
+
+/// The offset of an access that a tree was asked for, or the stop.
+pub fn offset_or_stop(alloc: AllocId, offset: u32, done: Result<(), TreeError>) -> Result<u32, Stop>
+    ensures { result ≡ told alloc offset done }
+{
+    match done {
+        Ok(()) => Ok(offset),
+        Err(error) => Err(tree_stop(alloc, error)),
+    }
+}
+
+/// That an event was done, or the stop.
+pub fn done_or_stop(alloc: AllocId, done: Result<(), TreeError>) -> Result<(), Stop>
+    ensures { result ≡ told alloc tt done }
+{
+    match done {
+        Ok(()) => Ok(()),
+        Err(error) => Err(tree_stop(alloc, error)),
+    }
+}
+
+/// The pointer to what was made, or the stop.
+pub fn pointer_or_stop(made: Result<Ptr, AllocError>) -> Result<Ptr, Stop>
+    ensures { result ≡ told_made made }
+{
+    match made {
+        Ok(ptr) => Ok(ptr),
+        Err(error) => Err(alloc_stop(error)),
     }
 }
