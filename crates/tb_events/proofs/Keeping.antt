@@ -150,7 +150,7 @@ module _ (memory : RunMemory) (number : ℕ) (sound : IsSound memory) where
   abbrev gone : RunMemory
   gone = without memory number
 
-  still_knows : (prov : Prov) → knows memory prov ≡ true → knows gone prov ≡ true
+  pub still_knows : (prov : Prov) → knows memory prov ≡ true → knows gone prov ≡ true
   still_knows prov h = by_number (same_or_not prov.alloc.0 number)
     where
       in_dead : (found : Option Allocation) (rows list : List Row) → knows_in found rows prov.tag.0 ≡ true → knows_in (option_map dead found) list prov.tag.0 ≡ true
@@ -272,3 +272,10 @@ read_known memory prov lo hi sound =
 pub if_ok : {T E : Type 0} {P Q : T → Type 0} (result : Result T E) → ((x : T) → P x → Q x) → IfOk result P → IfOk result Q
 if_ok (Ok x) f p = f x p
 if_ok (Err e) f p = tt
+
+-- what was known is known after one is dead, where its parts are told one by one
+pub gone_keeps : (memory : RunMemory) (number : ℕ) (table : List Allocation) (contents : List (List ByteVal)) (trees : List TreeRows) → IsSound memory → table ≡ killed memory.table number → trees ≡ felled memory.trees number
+    → (asked : Prov) → knows memory asked ≡ true → knows (record memory { table = table; contents = contents; trees = trees }) asked ≡ true
+gone_keeps memory number table contents trees sound e g asked h =
+    subst (λ (t : List Allocation). knows (record memory { table = t; contents = contents; trees = trees }) asked ≡ true) (sym e)
+    (subst (λ (t : List TreeRows). knows (record memory { table = killed memory.table number; contents = contents; trees = t }) asked ≡ true) (sym g) (still_knows memory number sound asked h))

@@ -70,7 +70,7 @@ module _ (memory : RunMemory) (size align : ℕ) (kind : AllocKind) (made : Span
   last_tree : tree_at (memory.trees ++ tree ∷ []) next ≡ tree
   last_tree = nth_end memory.trees next tree no_tree (let same : length memory.trees ≡ length memory.table = sound.count in omega arith)
 
-  still_knows : (prov : Prov) → knows memory prov ≡ true → knows bigger prov ≡ true
+  pub still_knows : (prov : Prov) → knows memory prov ≡ true → knows bigger prov ≡ true
   still_knows prov h =
       let within : (1 ≤ prov.alloc.0) × (prov.alloc.0 ≤ length memory.table) = known_made memory prov h in
       let high : prov.alloc.0 ≤ length memory.table = within.1 in

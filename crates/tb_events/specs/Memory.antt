@@ -1,6 +1,6 @@
 -- The memory of a run as the machine keeps it: every allocation that was made, with its bytes and with the rows of the tags
 -- that it still has, its own rows. Pruning takes rows out.
-use Rattle.std.specs.Prelude.{ℕ, ◌+◌, Bool, true, false, not, ◌&&◌, ◌||◌, List, [], ◌∷◌, ◌++◌, length, Option, Some, None, is_some}
+use Rattle.std.specs.Prelude.{◌≡◌, ℕ, ◌+◌, Bool, true, false, not, ◌&&◌, ◌||◌, List, [], ◌∷◌, ◌++◌, length, Option, Some, None, is_some}
 use Rattle.std.specs.List.{list_any}
 use Rattle.tb_perm.specs.declared.span.Span.{Span}
 use Rattle.tb_perm.specs.declared.tag.Prov.{Prov}
@@ -86,3 +86,7 @@ knows memory prov = knows_in (allocation_at memory.table prov.alloc.0) (rows_at 
 -- the allocation that it names is live, and has the tag
 abbrev pub reaches : RunMemory → Prov → Bool
 reaches memory prov = is_some (live_at memory.table prov.alloc.0) && has_tag (rows_at memory prov.alloc.0) prov.tag.0
+
+-- what the old memory knows the new one knows
+abbrev pub Keeps : RunMemory → RunMemory → Type 0
+Keeps old new = (prov : Prov) → knows old prov ≡ true → knows new prov ≡ true

@@ -6,7 +6,7 @@ ghost use Rattle.tb_perm.specs.Access.{accessed, access_report};
 ghost use Rattle.tb_perm.specs.Deallocation.{dealloc_report};
 ghost use Rattle.tb_alloc.specs.declared.allocation.Allocation.{Allocation};
 ghost use Rattle.tb_alloc.specs.Allocations.{allocation_at, live_bytes_of, live_limit};
-ghost use Rattle.tb_value.specs.Provs.{all_pass};
+ghost use Rattle.tb_value.specs.Provs.{passes, all_pass};
 ghost use Rattle.tb_store.specs.Store.{bytes_at};
 
 use std::alloc::{AllocError as MemoryError, Global};
@@ -56,7 +56,7 @@ fn base_at(table: &Allocs, id: AllocId) -> u64
 
 impl<T: BorrowTree> Memory<T> {
     ghost use Rattle.tb_forest.specs.Forest.{TreeRows};
-    ghost use Rattle.tb_events.specs.Memory.{no_memory, rows_at, size_at, reaches, knows, with_made, made_pointer, with_rows, with_bytes, without};
+    ghost use Rattle.tb_events.specs.Memory.{no_memory, rows_at, size_at, reaches, knows, with_made, made_pointer, with_rows, with_bytes, without, Keeps};
     ghost use Rattle.tb_events.specs.Sound.{IsSound};
 
     /// A memory without allocations and calls.
@@ -113,6 +113,8 @@ impl<T: BorrowTree> Memory<T> {
         ensures limit { IsErrOf result AllocError.LiveLimit → live_limit < live_bytes_of self.old.table + size }
         ensures fits { OnOk result (live_bytes_of self.old.table + size ≤ live_limit) }
         ensures err { OnErr result (self.new ≡ self.old) }
+        ensures known { IfOk result (λ ptr. passes (knows self.new) ptr.prov ≡ true) }
+        ensures keeps { Keeps self.old self.new }
     {
         let tag = self.tags + 1;
         let Ok(()) = self.forest.plant(self.alloc, size, Tag(tag), made) else {
@@ -156,6 +158,7 @@ impl<T: BorrowTree> Memory<T> {
         ensures gone { OnMemory result (self.new ≡ without self.old prov.alloc.0) }
         ensures reached { OnOk result (reaches self.new prov ≡ true) }
         ensures known { OnOk result ((asked : Prov) → knows self.new asked ≡ knows self.old asked) }
+        ensures keeps { Keeps self.old self.new }
         ensures counted { steps.old ≤ steps.new }
     {
         match self
@@ -178,6 +181,7 @@ impl<T: BorrowTree> Memory<T> {
         ensures answer { Answers (dealloc_report (rows_at self.old prov.alloc.0) (size_at self.old prov.alloc.0) prov.tag.0) result }
         ensures refused { OnBorrow result (self.new ≡ self.old) }
         ensures gone { OnMemory result (self.new ≡ without self.old prov.alloc.0) }
+        ensures keeps { Keeps self.old self.new }
         ensures counted { steps.old ≤ steps.new }
     {
         match self.forest.fell(prov.alloc, prov.tag, steps) {
@@ -212,6 +216,7 @@ impl<T: BorrowTree> Memory<T> {
         requires known { all_pass (knows self.old) bytes.now ≡ true }
         ensures ok { OnOk result (self.new ≡ with_bytes self.old prov.alloc.0 (splice (bytes_at self.old.contents prov.alloc.0) lo (lo + length bytes.now) bytes.now)) }
         ensures gone { OnErr result (self.new ≡ without self.old prov.alloc.0) }
+        ensures keeps { Keeps self.old self.new }
     {
         match self.store.write(prov.alloc, lo, bytes) {
             Ok(()) => Ok(()),

@@ -3,12 +3,14 @@ use Rattle.std.specs.Prelude.{◌≡◌, ◌⊎◌, ℕ, ◌+◌, ◌<◌, ◌�
 use Rattle.tb_perm.specs.declared.tag.Prov.{Prov}
 use Rattle.tb_events.specs.Memory.{RunMemory, size_at, reaches}
 use Rattle.tb_memory.specs.declared.stop.Stop.{Stop}
-use Rattle.tb_memory.specs.declared.stop.Stop.TheVariants.{Memory}
+use Rattle.tb_memory.specs.declared.stop.Stop.TheVariants.{Dangling, OutOfBounds, Memory}
 use Rattle.tb_memory.specs.Heap.{Came, Done, Stopped, tree_stop, alloc_stop}
 use Rattle.tb_perm.specs.declared.tag.AllocId.{AllocId}
 use Rattle.tb_perm.specs.declared.report.TreeError.{TreeError}
 use Rattle.tb_alloc.specs.declared.ptr.Ptr.{Ptr}
 use Rattle.tb_alloc.specs.declared.faults.AllocError.{AllocError}
+use Rattle.tb_alloc.specs.declared.faults.OffsetFault.{OffsetFault}
+use Rattle.tb_alloc.specs.declared.faults.OffsetFault.TheVariants as offset_fault
 
 -- the answer and what stands after it are those that the call comes to
 abbrev pub Agrees : {A : Type 0} → Came A → Result A Stop → RunMemory → Type 0
@@ -35,3 +37,9 @@ told alloc answer (Err error) = Err (tree_stop alloc error)
 abbrev pub told_made : Result Ptr AllocError → Result Ptr Stop
 told_made (Ok ptr) = Ok ptr
 told_made (Err error) = Err (alloc_stop error)
+
+-- what a move of a pointer answers, told on
+abbrev pub offset_told : Result Ptr OffsetFault → Result Ptr Stop
+offset_told (Ok ptr) = Ok ptr
+offset_told (Err offset_fault.Dangling) = Err Dangling
+offset_told (Err offset_fault.OutOfBounds) = Err OutOfBounds

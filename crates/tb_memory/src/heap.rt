@@ -3,12 +3,14 @@ ghost use Rattle.tb_perm.specs.declared.tag.Prov.{Prov};
 ghost use Rattle.tb_types.specs.Table.{IsType};
 ghost use Rattle.tb_types.specs.Extent.{extent_of, fits};
 ghost use Rattle.tb_alloc.specs.Check.{live_of};
+ghost use Rattle.tb_alloc.specs.Offset.{offset_of};
 ghost use Rattle.tb_value.specs.Copies.{copy_of};
 ghost use Rattle.tb_value.specs.Provs.{passes, all_pass};
 ghost use Rattle.tb_alloc.specs.declared.allocation.AllocKind.TheVariants.{Stack, Heap as OnHeap};
 
 use crate::stop::{
-    Stop, access_stop, done_or_stop, free_stop, offset_or_stop, pointer_or_stop, value_stop,
+    Stop, access_stop, done_or_stop, free_stop, offset_or_stop, place_or_stop, pointer_or_stop,
+    value_stop,
 };
 use sqlite_items::Items;
 use std::alloc::{AllocError as MemoryError, Global};
@@ -41,9 +43,9 @@ impl<T: BorrowTree> Model for Heap<T> {
 }
 
 impl<T: BorrowTree> Heap<T> {
-    ghost use Rattle.tb_events.specs.Memory.{no_memory, size_at, knows, reaches};
+    ghost use Rattle.tb_events.specs.Memory.{no_memory, size_at, knows, reaches, Keeps};
     ghost use Rattle.tb_memory.specs.Heap.{Done, through, if_checked, access, bytes_through, valued, loaded, written, stored, made, ended, freed, dead};
-    ghost use Rattle.tb_memory.specs.Answers.{Answers, IsWithin};
+    ghost use Rattle.tb_memory.specs.Answers.{Answers, IsWithin, offset_told};
 
     /// A heap without allocations and calls.
     pub fn new(alloc: Global) -> Result<Heap<T>, MemoryError>
@@ -58,6 +60,14 @@ impl<T: BorrowTree> Heap<T> {
         ensures { result.now ≡ self.now.table }
     {
         self.memory.table()
+    }
+
+    /// The pointer moved by a distance in bytes. Any pointer may be moved by 0; else it needs a live allocation, and its
+    /// address and the new one lie from the allocation's base to its end, the end included.
+    pub fn offset(&self, ptr: Ptr, distance: i128) -> Result<Ptr, Stop>
+        ensures { result ≡ offset_told (offset_of self.now.table ptr distance) }
+    {
+        offset_or_stop(self.memory.table().offset(ptr, distance))
     }
 
     /// Where bytes of an allocation end.
@@ -83,10 +93,11 @@ impl<T: BorrowTree> Heap<T> {
         ensures answer { Answers (through self.old (Some prov) offset size kind) result self.new }
         ensures within { IfOk result (λ place. IsWithin self.new (Some prov) place size) }
         ensures known { OnOk result ((asked : Prov) → knows self.new asked ≡ knows self.old asked) }
+        ensures keeps { Keeps self.old self.new }
     {
         let end = self.end_of(prov, offset, size);
         let done = self.memory.access(prov, offset, end, kind, steps);
-        offset_or_stop(prov.alloc, offset, done)
+        place_or_stop(prov.alloc, offset, done)
     }
 
     /// An access to `size` bytes at a pointer. Answers where in the allocation they begin.
@@ -103,6 +114,7 @@ impl<T: BorrowTree> Heap<T> {
         ensures answer { Answers (access self.old ptr size align kind) result self.new }
         ensures within { IfOk result (λ offset. IsWithin self.new ptr.prov offset size) }
         ensures known { OnOk result ((asked : Prov) → knows self.new asked ≡ knows self.old asked) }
+        ensures keeps { Keeps self.old self.new }
     {
         self.memory.law_memory();
         match self.memory.table().check(ptr, size as u128, align) {
@@ -126,6 +138,7 @@ impl<T: BorrowTree> Heap<T> {
         ensures answer { Answers (if_checked self.old ptr size kind (Ok offset)) result self.new }
         ensures within { IfOk result (λ place. IsWithin self.new ptr.prov place size) }
         ensures known { OnOk result ((asked : Prov) → knows self.new asked ≡ knows self.old asked) }
+        ensures keeps { Keeps self.old self.new }
     {
         if size == 0 {
             return Ok(offset);
@@ -153,7 +166,8 @@ impl<T: BorrowTree> Heap<T> {
     fn put(&mut self, prov: Option<Prov>, offset: u32, bytes: &[ByteVal]) -> Result<(), Stop>
         requires within { IsWithin self.old prov offset (length bytes.now) }
         requires known { all_pass (knows self.old) bytes.now ≡ true }
-        ensures { Answers (Done (written self.old prov offset bytes.now) tt) result self.new }
+        ensures answer { Answers (Done (written self.old prov offset bytes.now) tt) result self.new }
+        ensures keeps { Keeps self.old self.new }
     {
         if bytes.is_empty() {
             return Ok(());
@@ -168,7 +182,8 @@ impl<T: BorrowTree> Heap<T> {
     /// A deallocation of the allocation that a provenance names.
     fn finish<L: Ledger>(&mut self, prov: Prov, steps: &mut Steps<L>) -> Result<(), Stop>
         requires { reaches self.old prov ≡ true }
-        ensures { Answers (ended self.old (Some prov)) result self.new }
+        ensures answer { Answers (ended self.old (Some prov)) result self.new }
+        ensures keeps { Keeps self.old self.new }
     {
         let done = self.memory.end(prov, steps);
         done_or_stop(prov.alloc, done)
@@ -178,7 +193,9 @@ impl<T: BorrowTree> Heap<T> {
     fn make(&mut self, size: u32, align: u32, kind: AllocKind, span: Span) -> Result<Ptr, Stop>
         requires align { 0 < align }
         requires tags { self.old.tags < 2 ^ 62 }
-        ensures { Answers (made self.old size align kind span) result self.new }
+        ensures answer { Answers (made self.old size align kind span) result self.new }
+        ensures known { IfOk result (λ ptr. passes (knows self.new) ptr.prov ≡ true) }
+        ensures keeps { Keeps self.old self.new }
     {
         let made = self.memory.make(size, align, kind, span);
         pointer_or_stop(made)
@@ -189,7 +206,9 @@ impl<T: BorrowTree> Heap<T> {
         requires ty { IsType types.now ty }
         requires layout { fits types.now ty ≡ true }
         requires tags { self.old.tags < 2 ^ 62 }
-        ensures { Answers (made self.old (extent_of types.now ty).size (extent_of types.now ty).align Stack span) result self.new }
+        ensures answer { Answers (made self.old (extent_of types.now ty).size (extent_of types.now ty).align Stack span) result self.new }
+        ensures known { IfOk result (λ ptr. passes (knows self.new) ptr.prov ≡ true) }
+        ensures keeps { Keeps self.old self.new }
     {
         let (size, align) = types.size_align(ty);
         self.make(size, align, AllocKind::Stack, span)
@@ -200,7 +219,9 @@ impl<T: BorrowTree> Heap<T> {
         requires ty { IsType types.now ty }
         requires layout { fits types.now ty ≡ true }
         requires tags { self.old.tags < 2 ^ 62 }
-        ensures { Answers (made self.old (extent_of types.now ty).size (extent_of types.now ty).align OnHeap span) result self.new }
+        ensures answer { Answers (made self.old (extent_of types.now ty).size (extent_of types.now ty).align OnHeap span) result self.new }
+        ensures known { IfOk result (λ ptr. passes (knows self.new) ptr.prov ≡ true) }
+        ensures keeps { Keeps self.old self.new }
     {
         let (size, align) = types.size_align(ty);
         self.make(size, align, AllocKind::Heap, span)
@@ -210,7 +231,9 @@ impl<T: BorrowTree> Heap<T> {
     pub fn raw_new(&mut self, size: u64, align: u32, span: Span) -> Result<Ptr, Stop>
         requires align { 0 < align }
         requires tags { self.old.tags < 2 ^ 62 }
-        ensures { Answers (made self.old size align OnHeap span) result self.new }
+        ensures answer { Answers (made self.old size align OnHeap span) result self.new }
+        ensures known { IfOk result (λ ptr. passes (knows self.new) ptr.prov ≡ true) }
+        ensures keeps { Keeps self.old self.new }
     {
         if size > LIVE_LIMIT {
             return Err(Stop::LiveLimit);
@@ -255,6 +278,7 @@ impl<T: BorrowTree> Heap<T> {
         requires known { passes (knows self.old) ptr.prov ≡ true }
         ensures answer { Answers (loaded self.old types.now ptr ty) result self.new }
         ensures known { IfOk result (λ bytes. all_pass (knows self.new) bytes ≡ true) }
+        ensures keeps { Keeps self.old self.new }
     {
         let (size, align) = types.size_align(ty);
         match self.access(ptr, size, align, Kind::Read, steps) {
@@ -277,7 +301,8 @@ impl<T: BorrowTree> Heap<T> {
         requires size { length bytes.now ≡ (extent_of types.now ty).size }
         requires known { passes (knows self.old) ptr.prov ≡ true }
         requires values { all_pass (knows self.old) bytes.now ≡ true }
-        ensures { Answers (stored self.old types.now ptr ty bytes.now) result self.new }
+        ensures answer { Answers (stored self.old types.now ptr ty bytes.now) result self.new }
+        ensures keeps { Keeps self.old self.new }
     {
         let (size, align) = types.size_align(ty);
         let Ok(copy) = stored(self.alloc, types, ty, bytes) else {
@@ -298,7 +323,8 @@ impl<T: BorrowTree> Heap<T> {
         steps: &mut Steps<L>,
     ) -> Result<(), Stop>
         requires { passes (knows self.old) ptr.prov ≡ true }
-        ensures { Answers (freed self.old ptr size align) result self.new }
+        ensures answer { Answers (freed self.old ptr size align) result self.new }
+        ensures keeps { Keeps self.old self.new }
     {
         match self.memory.table().check_free(ptr, size, align) {
             Ok(()) => self.end_live(ptr, steps),
@@ -317,7 +343,8 @@ impl<T: BorrowTree> Heap<T> {
         requires ty { IsType types.now ty }
         requires layout { fits types.now ty ≡ true }
         requires known { passes (knows self.old) ptr.prov ≡ true }
-        ensures { Answers (freed self.old ptr (extent_of types.now ty).size (extent_of types.now ty).align) result self.new }
+        ensures answer { Answers (freed self.old ptr (extent_of types.now ty).size (extent_of types.now ty).align) result self.new }
+        ensures keeps { Keeps self.old self.new }
     {
         let (size, align) = types.size_align(ty);
         self.raw_free(ptr, size as u64, align as u64, steps)
@@ -326,7 +353,8 @@ impl<T: BorrowTree> Heap<T> {
     /// Ends the life of a variable.
     pub fn local_dead<L: Ledger>(&mut self, ptr: Ptr, steps: &mut Steps<L>) -> Result<(), Stop>
         requires { passes (knows self.old) ptr.prov ≡ true }
-        ensures { Answers (dead self.old ptr) result self.new }
+        ensures answer { Answers (dead self.old ptr) result self.new }
+        ensures keeps { Keeps self.old self.new }
     {
         if self.memory.table().live_of(ptr.prov).is_none() {
             return Err(Stop::Dangling);
@@ -338,7 +366,8 @@ impl<T: BorrowTree> Heap<T> {
     fn end_live<L: Ledger>(&mut self, ptr: Ptr, steps: &mut Steps<L>) -> Result<(), Stop>
         requires known { passes (knows self.old) ptr.prov ≡ true }
         requires live { IsSome (live_of self.old.table ptr.prov) }
-        ensures { Answers (ended self.old ptr.prov) result self.new }
+        ensures answer { Answers (ended self.old ptr.prov) result self.new }
+        ensures keeps { Keeps self.old self.new }
     {
         let Some(prov) = ptr.prov else { unreachable!() };
         self.finish(prov, steps)

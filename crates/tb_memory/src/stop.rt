@@ -1,8 +1,8 @@
 ghost use Rattle.std.specs.Prelude.{◌≡◌};
 ghost use Rattle.tb_memory.specs.Heap.{access_stop, tree_stop, alloc_stop, free_stop, value_stop};
-ghost use Rattle.tb_memory.specs.Answers.{told, told_made};
+ghost use Rattle.tb_memory.specs.Answers.{told, told_made, offset_told};
 
-use tb_alloc::{AccessFault, AllocError, FreeFault, Ptr};
+use tb_alloc::{AccessFault, AllocError, FreeFault, OffsetFault, Ptr};
 use tb_perm::{AllocId, Report, TreeError};
 use tb_value::ValueFault;
 
@@ -82,8 +82,8 @@ pub fn value_stop(fault: ValueFault) -> Stop
     }
 }
 
-/// The offset of an access that a tree was asked for, or the stop.
-pub fn offset_or_stop(alloc: AllocId, offset: u32, done: Result<(), TreeError>) -> Result<u32, Stop>
+/// The place of an access that a tree was asked for, or the stop.
+pub fn place_or_stop(alloc: AllocId, offset: u32, done: Result<(), TreeError>) -> Result<u32, Stop>
     ensures { result ≡ told alloc offset done }
 {
     match done {
@@ -109,5 +109,16 @@ pub fn pointer_or_stop(made: Result<Ptr, AllocError>) -> Result<Ptr, Stop>
     match made {
         Ok(ptr) => Ok(ptr),
         Err(error) => Err(alloc_stop(error)),
+    }
+}
+
+/// The pointer that was moved, or the stop.
+pub fn offset_or_stop(moved: Result<Ptr, OffsetFault>) -> Result<Ptr, Stop>
+    ensures { result ≡ offset_told moved }
+{
+    match moved {
+        Ok(ptr) => Ok(ptr),
+        Err(OffsetFault::Dangling) => Err(Stop::Dangling),
+        Err(OffsetFault::OutOfBounds) => Err(Stop::OutOfBounds),
     }
 }

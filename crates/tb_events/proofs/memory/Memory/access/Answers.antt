@@ -5,7 +5,7 @@ use Rattle.tb_perm.specs.Access.{access_event, access_report}
 use Rattle.tb_forest.specs.Forest.{TreeRows, tree_at}
 use Rattle.tb_events.specs.Memory.{RunMemory, rows_at, size_at, knows, reaches}
 use Rattle.tb_events.specs.Sound.{IsSound}
-use Rattle.tb_events.proofs.Keeping.{gone_is, sized, kept_event, known_event, reached_event}
+use Rattle.tb_events.proofs.Keeping.{gone_is, gone_keeps, sized, kept_event, known_event, reached_event}
 use Rattle.tb_events.proofs.memory.Memory.access.Goals as goal
 
 pub invariant_of-self-in-Err-Memory : goal.invariant_of-self-in-Err-Memory
@@ -39,3 +39,10 @@ returns-in-Ok-clause-known g c =
     subst (λ (trees : List TreeRows). knows (record memory { trees = trees }) asked ≡ knows memory asked) (sym c.in-Ok.ensures.moved)
     (known_event memory c.args.prov (λ (tree : TreeRows). access_event c.args.prov.tag.0 c.args.lo c.args.hi c.args.kind) c.self.invariant (ap (λ (m : RunMemory). reaches m c.args.prov) c.self.view_is ∙ c.requires.prov) asked)
     ∙ ap (λ (m : RunMemory). knows m asked) c.self.view_is
+
+pub returns-in-Ok-clause-keeps : goal.returns-in-Ok-clause-keeps
+returns-in-Ok-clause-keeps g c = λ asked h. returns-in-Ok-clause-known g c asked ∙ h
+
+pub returns-in-Err-Memory-clause-keeps : goal.returns-in-Err-Memory-clause-keeps
+returns-in-Err-Memory-clause-keeps g c =
+    λ asked h. gone_keeps (record { table = c.self.inside.store.table; contents = c.self.inside.store.contents; trees = c.self.inside.forest; tags = c.self.inside.tags; frames = c.self.inside.frames }) c.args.prov.alloc.0 c.kill.new.self.table c.kill.new.self.contents c.access.new.self c.self.invariant c.kill.ensures.table (rw c.in-Err-Memory.field-0-is at c.in-Err-Memory.ensures.gone) asked (ap (λ (m : RunMemory). knows m asked) c.self.view_is ∙ h)

@@ -7,8 +7,8 @@ use Rattle.tb_memory.specs.Answers.{Answers}
 use Rattle.tb_memory.proofs.Answering.{tree_answers}
 use Rattle.tb_memory.proofs.heap.Heap.finish.Goals as goal
 
-pub returns : goal.returns
-returns g c =
+pub returns-clause-answer : goal.returns-clause-answer
+returns-clause-answer g c =
     let memory : RunMemory = c.self.inside.memory in
     subst (λ (m : RunMemory). Answers (ended m (Some c.args.prov)) c.done_or_stop.result c.end-done.new.self) c.self.view_is
     (subst (λ (r : Result (Unit {0}) Stop). Answers (ended memory (Some c.args.prov)) r c.end-done.new.self) (sym c.done_or_stop.ensures)
