@@ -1,27 +1,21 @@
 -- What is true of a memory stays true when one of its allocations changes.
 use Rattle.std.proofs.Common.{IfOk, Err, Ok, Result, ◌-◌, ◌≡◌, ◌≢◌, refl, sym, ◌∙◌, ap, subst, inl, inr, ◌⊎◌, ℕ, zero, suc, ◌+◌, ◌<◌, ◌≤◌, Bool, true, false, true≢false, cond, not, ◌&&◌, ◌||◌, List, [], ◌∷◌, ◌++◌, length, take, drop, Option, Some, None, is_some, option_map, arith}
 use Rattle.std.specs.Cmp.{first_so, second_so}
-use Rattle.std.specs.List.{slice_range, AllByRecursion, list_all, list_any, splice}
-use Rattle.std.proofs.lemmas.List.{length-append}
-use Rattle.tb_perm.specs.declared.span.Span.{Span}
+use Rattle.std.specs.List.{slice_range, AllByRecursion, splice}
 use Rattle.tb_perm.specs.declared.tag.Prov.{Prov}
-use Rattle.tb_perm.specs.declared.perm.Guard.{Guard}
-use Rattle.tb_perm.specs.declared.perm.Guard.TheVariants.{Free, Weak, Strong}
-use Rattle.tb_perm.specs.Rows.{Row, is_tag, HasTag, IsRows, guard_in, root_row}
+use Rattle.tb_perm.specs.Rows.{Row, IsRows}
 use Rattle.tb_perm.specs.Tree.{KeepsTree}
-use Rattle.tb_perm.proofs.Kept.{list_any-KeepsTree, All_tags-kept, IsRows-kept, IsRows-root}
+use Rattle.tb_perm.proofs.Kept.{list_any-KeepsTree, All_tags-kept, IsRows-kept}
 use Rattle.tb_bytes.specs.declared.byte_val.ByteVal.{ByteVal}
 use Rattle.tb_bytes.specs.Bytes.{prov_of}
 use Rattle.tb_alloc.specs.declared.allocation.Allocation.{Allocation}
-use Rattle.tb_alloc.specs.declared.allocation.AllocKind.{AllocKind}
 use Rattle.tb_alloc.specs.Allocations.{allocation_at, dead, killed}
 use Rattle.tb_alloc.proofs.Numbers.{allocation_at-killed, allocation_at-killed_other, length-killed}
 use Rattle.tb_alloc.specs.Check.{if_live}
-use Rattle.tb_protect.specs.Frames.{kind_of}
 use Rattle.tb_prune.specs.Guards.{GuardsAre}
 use Rattle.tb_value.specs.Provs.{passes, all_pass}
-use Rattle.tb_store.specs.Store.{nth, with_nth, bytes_at, live_at, uninit, AreBlocks}
-use Rattle.tb_store.proofs.Places.{same_or_not, nth_same, nth_other, length_with, nth_before, nth_end, nth_past}
+use Rattle.tb_store.specs.Store.{nth, with_nth, bytes_at, live_at}
+use Rattle.tb_store.proofs.Places.{same_or_not, nth_same, nth_other, length_with, nth_past}
 use Rattle.tb_store.proofs.Blocks.{made_within, live_made, blocks_gone, blocks_written}
 use Rattle.tb_forest.specs.Forest.{TreeRows, no_tree, tree_at, changed, felled}
 use Rattle.tb_bytes.proofs.Splices.{length-splice}
@@ -30,7 +24,7 @@ use Rattle.tb_perm.specs.Event.{Event, after}
 use Rattle.tb_perm.proofs.Kept.{after-keeps}
 use Rattle.tb_prune.proofs.GuardLaws.{guards_event}
 use Rattle.tb_value.proofs.Kept.{pass_both, pass_take, pass_drop}
-use Rattle.tb_events.specs.Memory.{RunMemory, rows_at, size_in, size_at, with_rows, with_bytes, with_made, without, has_tag, knows_in, knows, reaches}
+use Rattle.tb_events.specs.Memory.{RunMemory, rows_at, size_in, size_at, with_rows, with_bytes, without, has_tag, knows_in, knows, reaches}
 use Rattle.tb_events.specs.Sound.{IsSound}
 
 both : (a b : Bool) → a ≡ true → b ≡ true → (a && b) ≡ true

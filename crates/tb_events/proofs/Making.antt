@@ -1,13 +1,13 @@
 -- What is true of a memory stays true when an allocation is made.
-use Rattle.std.proofs.Common.{◌≡◌, ◌≢◌, refl, sym, ◌∙◌, ap, subst, inl, inr, ◌⊎◌, ℕ, zero, suc, ◌+◌, ◌<◌, ◌≤◌, Bool, true, false, true≢false, cond, not, ◌&&◌, ◌||◌, List, [], ◌∷◌, ◌++◌, length, Option, Some, None, option_map, unwrap_or, arith}
-use Rattle.std.specs.List.{AllByRecursion, list_any}
+use Rattle.std.proofs.Common.{◌≡◌, ◌≢◌, refl, sym, ◌∙◌, ap, subst, inl, inr, ◌⊎◌, ℕ, zero, suc, ◌+◌, ◌<◌, ◌≤◌, Bool, true, false, true≢false, cond, List, [], ◌∷◌, ◌++◌, length, Option, Some, None, option_map, unwrap_or, arith}
+use Rattle.std.specs.List.{AllByRecursion}
 use Rattle.std.proofs.lemmas.List.{length-append}
 use Rattle.tb_perm.specs.declared.span.Span.{Span}
 use Rattle.tb_perm.specs.declared.tag.AllocId.{AllocId}
 use Rattle.tb_perm.specs.declared.tag.Prov.{Prov}
 use Rattle.tb_perm.specs.declared.perm.Guard.{Guard}
 use Rattle.tb_perm.specs.declared.perm.Guard.TheVariants.{Free, Weak, Strong}
-use Rattle.tb_perm.specs.Rows.{Row, is_tag, HasTag, IsRows, guard_in, root_row}
+use Rattle.tb_perm.specs.Rows.{Row, is_tag, IsRows, guard_in, root_row}
 use Rattle.tb_perm.proofs.Kept.{IsRows-root}
 use Rattle.tb_bytes.specs.declared.byte_val.ByteVal.{ByteVal}
 use Rattle.tb_alloc.specs.declared.allocation.Allocation.{Allocation}
@@ -17,12 +17,12 @@ use Rattle.tb_alloc.specs.Check.{if_live}
 use Rattle.tb_protect.specs.Frames.{kind_of}
 use Rattle.tb_prune.specs.Guards.{GuardsAre}
 use Rattle.tb_value.specs.Provs.{all_pass}
-use Rattle.tb_store.specs.Store.{nth, bytes_at, live_at, uninit, AreBlocks}
+use Rattle.tb_store.specs.Store.{nth, bytes_at, live_at, uninit}
 use Rattle.tb_store.proofs.Places.{same_or_not, nth_before, nth_end, nth_past}
 use Rattle.tb_store.proofs.Blocks.{made_within, live_made, blocks_made}
 use Rattle.tb_forest.specs.Forest.{TreeRows, no_tree, tree_at}
 use Rattle.tb_alloc.proofs.Numbers.{allocation_at-push_new, allocation_at-push_other, found_pushed}
-use Rattle.tb_events.specs.Memory.{RunMemory, rows_at, with_made, made_pointer, has_tag, knows_in, knows}
+use Rattle.tb_events.specs.Memory.{RunMemory, rows_at, with_made, made_pointer, knows_in, knows}
 use Rattle.tb_events.specs.Sound.{IsSound}
 use Rattle.tb_events.proofs.Keeping.{pass_more}
 

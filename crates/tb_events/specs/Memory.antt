@@ -11,7 +11,7 @@ use Rattle.tb_alloc.specs.declared.allocation.AllocKind.{AllocKind}
 use Rattle.tb_alloc.specs.declared.ptr.Ptr.{Ptr}
 use Rattle.tb_alloc.specs.Allocations.{allocation_at, next_base, new_allocation, killed}
 use Rattle.tb_protect.specs.Frames.{Frames}
-use Rattle.tb_store.specs.Store.{nth, with_nth, live_at, uninit}
+use Rattle.tb_store.specs.Store.{with_nth, live_at, uninit}
 use Rattle.tb_forest.specs.Forest.{TreeRows, tree_at, changed, felled}
 
 -- the allocations in the order of their making, the bytes of each and the rows of its tags, how many tags were drawn over the

@@ -1,5 +1,5 @@
 -- How the answers of parts are the answer of the whole.
-use Rattle.std.proofs.Common.{◌≡◌, refl, sym, ◌∙◌, ap, subst, inl, inr, ◌⊎◌, ℕ, ◌+◌, ◌<◌, ◌≤◌, Bool, true, false, cond, nat_lt, Option, Some, None, Result, Ok, Err, OnOk, OnErr, IfOk, IsErrOf, arith}
+use Rattle.std.proofs.Common.{◌≡◌, refl, ap, subst, inl, inr, ℕ, ◌+◌, ◌<◌, ◌≤◌, Bool, true, false, cond, nat_lt, Option, Some, None, Result, Ok, Err, OnOk, OnErr, IfOk, IsErrOf, arith}
 use Rattle.std.proofs.lemmas.Bool.{ltb-true, ltb-false}
 use Rattle.tb_perm.specs.declared.span.Span.{Span}
 use Rattle.tb_perm.specs.declared.tag.Prov.{Prov}

@@ -1,11 +1,10 @@
-use Rattle.std.proofs.Common.{◌≡◌, sym, ◌∙◌, ap, subst, ℕ, List, Ok, Err}
+use Rattle.std.proofs.Common.{◌∙◌, ap, subst, Ok, Err}
 use Rattle.tb_perm.specs.declared.report.TreeError.TheVariants.{Borrow}
 use Rattle.tb_perm.specs.Answer.{Answers}
 use Rattle.tb_perm.specs.Deallocation.{dealloc_report}
-use Rattle.tb_forest.specs.Forest.{TreeRows, tree_at}
+use Rattle.tb_forest.specs.Forest.{tree_at}
 use Rattle.tb_events.specs.Memory.{RunMemory, rows_at, size_at, reaches}
-use Rattle.tb_events.specs.Sound.{IsSound}
-use Rattle.tb_events.proofs.Keeping.{gone_is, sized, kept_event}
+use Rattle.tb_events.proofs.Keeping.{gone_is, sized}
 use Rattle.tb_events.proofs.memory.Memory.end.Goals as goal
 
 pub invariant_of-self-in-Err-Memory : goal.invariant_of-self-in-Err-Memory

@@ -1,4 +1,4 @@
-use Rattle.std.proofs.Common.{◌≡◌, sym, ◌∙◌, ap}
+use Rattle.std.proofs.Common.{sym, ◌∙◌, ap}
 use Rattle.tb_events.specs.Memory.{RunMemory, made_pointer}
 use Rattle.tb_events.proofs.Making.{made_is, pointer_is}
 use Rattle.tb_events.proofs.memory.Memory.make.Goals as goal

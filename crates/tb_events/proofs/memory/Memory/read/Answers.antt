@@ -1,5 +1,4 @@
-use Rattle.std.proofs.Common.{◌≡◌, ◌∙◌, ap, subst, sym, true, ◌≤◌, length, List}
-use Rattle.tb_bytes.specs.declared.byte_val.ByteVal.{ByteVal}
+use Rattle.std.proofs.Common.{◌≡◌, ◌∙◌, ap, subst, sym, true, ◌≤◌, length}
 use Rattle.tb_value.specs.Provs.{all_pass}
 use Rattle.tb_events.specs.Memory.{RunMemory, size_at, knows, reaches}
 use Rattle.tb_events.proofs.Keeping.{if_ok, read_size, read_known}

@@ -1,4 +1,3 @@
-use Rattle.std.proofs.Common.{◌≡◌, ◌∙◌, ap, ◌+◌, ◌-◌, ◌<◌, length, arith}
 use Rattle.tb_forest.proofs.Turning.{kept_back, taken_back}
 use Rattle.tb_forest.proofs.forest.Forest.uproot.Goals as goal
 

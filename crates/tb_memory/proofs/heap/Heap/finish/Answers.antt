@@ -1,4 +1,4 @@
-use Rattle.std.proofs.Common.{◌≡◌, sym, subst, Some, Result}
+use Rattle.std.proofs.Common.{sym, subst, Some, Result}
 use Rattle.tb_perm.specs.Deallocation.{dealloc_report}
 use Rattle.tb_events.specs.Memory.{RunMemory, rows_at, size_at, without}
 use Rattle.tb_memory.specs.declared.stop.Stop.{Stop}

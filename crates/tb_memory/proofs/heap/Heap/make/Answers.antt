@@ -1,4 +1,4 @@
-use Rattle.std.proofs.Common.{◌≡◌, sym, subst, Result}
+use Rattle.std.proofs.Common.{sym, subst, Result}
 use Rattle.tb_alloc.specs.declared.ptr.Ptr.{Ptr}
 use Rattle.tb_events.specs.Memory.{RunMemory}
 use Rattle.tb_memory.specs.declared.stop.Stop.{Stop}

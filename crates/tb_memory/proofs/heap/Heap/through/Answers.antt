@@ -1,4 +1,4 @@
-use Rattle.std.proofs.Common.{◌≡◌, sym, subst, ℕ, Some, Result}
+use Rattle.std.proofs.Common.{sym, subst, ℕ, Some, Result}
 use Rattle.tb_perm.specs.Access.{accessed, access_report}
 use Rattle.tb_forest.specs.Forest.{TreeRows}
 use Rattle.tb_events.specs.Memory.{RunMemory, rows_at, size_at, with_rows}
