@@ -1,0 +1,4 @@
+pub mod Marks
+pub mod Event
+pub mod Stages
+pub mod Changes
