@@ -1,11 +1,11 @@
 -- Marks stay sound: whatever stands between an event's tags before and after it, in the order of the stages.
-use Rattle.std.proofs.Common.{◌≡◌, ◌∙◌, ◌⊎◌, ◌≤◌, ℕ, Bool, true, false, cond, List, refl, ap, sym, subst, arith, Option, Some, None, inl, inr}
+use Rattle.std.proofs.Common.{◌≡◌, ◌∙◌, ◌⊎◌, ◌≤◌, ℕ, Bool, true, false, cond, List, refl, ap, sym, subst, arith, Option, None, inl, inr}
 use Rattle.tb_perm.specs.declared.perm.Kind.{Kind}
 use Rattle.tb_perm.specs.declared.perm.Mark.{Mark}
 use Rattle.tb_perm.specs.declared.perm.State.{State}
 use Rattle.tb_perm.specs.declared.perm.Rel.TheVariants.{Local, Foreign}
 use Rattle.tb_perm.specs.Event.{moved_state, refusal_of}
-use Rattle.tb_shape.specs.Tree.{Keys, IsPath, IsAncestor}
+use Rattle.tb_shape.specs.Tree.{Keys, IsAncestor}
 use Rattle.tb_marks.specs.Marks.{Promises, AtByte, AreSound}
 use Rattle.tb_marks.specs.Event.{contains, lowered_at, raised_at, leaves_at, visited, IsShut, IsVisit}
 use Rattle.tb_marks.specs.Stages.{IsStage}

@@ -1,5 +1,5 @@
 -- The permission table, on what marks promise.
-use Rattle.std.proofs.Common.{◌≡◌, ◌∙◌, ◌⊎◌, ◌≤◌, Bool, true, false, cond, refl, ap, sym, subst, arith, Option, Some, None, inl, inr}
+use Rattle.std.proofs.Common.{◌≡◌, ◌∙◌, ◌⊎◌, ◌≤◌, Bool, true, refl, ap, sym, subst, arith, Option, Some, None, inl, inr}
 use Rattle.std.specs.Prelude.{Result, Ok, Err}
 use Rattle.tb_perm.specs.declared.perm.Perm.{Perm}
 use Rattle.tb_perm.specs.declared.perm.Perm.TheVariants.{Cell, Reserved, Conflicted, ReservedIm, Active, Frozen, Disabled}
@@ -11,11 +11,11 @@ use Rattle.tb_perm.specs.declared.perm.Rel.TheVariants.{Local, Foreign}
 use Rattle.tb_perm.specs.declared.perm.Mark.{Mark}
 use Rattle.tb_perm.specs.declared.perm.Mark.TheVariants.{Nothing, Read as ReadMark, Write as WriteMark}
 use Rattle.tb_perm.specs.declared.report.Refusal.{Refusal}
-use Rattle.tb_perm.specs.Table.{step_of, after_foreign, loses, IsIdle}
+use Rattle.tb_perm.specs.Table.{step_of, after_foreign, IsIdle}
 use Rattle.tb_perm.specs.Event.{moved_state, refusal_of, state_after, refusal_in}
 use Rattle.tb_perm.specs.Marked.{level, leaves_alone}
-use Rattle.tb_perm.proofs.Idle.{idle_moves, idle_stays, stays_idle, idle_after, idle_read, idle_local_read, foreign_twice}
-use Rattle.tb_marks.specs.Marks.{Promises, lowered, raised}
+use Rattle.tb_perm.proofs.Idle.{idle_moves, idle_after, idle_read, idle_local_read}
+use Rattle.tb_marks.specs.Marks.{Promises, raised}
 use Rattle.tb_marks.specs.Event.{lowered_at, raised_at, leaves_at}
 
 -- an access that is not refused has its new state

@@ -1,7 +1,5 @@
 -- Ways to the root, and ancestors.
-use Rattle.std.proofs.Common.{◌≡◌, ◌∙◌, ◌||◌, ◌≤◌, ℕ, Bool, true, false, List, [], ◌∷◌, length, refl, ap, sym, subst, arith, Option, Some, None, ◌==◌}
-use Rattle.std.specs.Prelude.{IsTrue}
-use Rattle.std.specs.List.{list_any}
+use Rattle.std.proofs.Common.{◌≡◌, ◌∙◌, ◌||◌, ◌≤◌, ℕ, Bool, true, false, List, [], ◌∷◌, length, refl, ap, sym, subst, arith, ◌==◌}
 use Rattle.std.proofs.lemmas.Bool.{eqb-true, eq-eqb, or_right}
 use Rattle.tb_perm.proofs.PathTags.{IsPathBy, one_path_by}
 use Rattle.tb_shape.specs.Tree.{Keys, HasKey, parent_of, IsPath, IsAncestor}

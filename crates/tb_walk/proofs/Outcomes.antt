@@ -1,0 +1,8 @@
+-- Facts about calls that succeed.
+use Rattle.std.proofs.Common.{OnOk}
+use Rattle.std.specs.Prelude.{Result, Ok, Err}
+
+-- what follows from a fact where a call succeeds
+pub on_ok : {T E P Q : Type 0} (r : Result T E) → (P → Q) → OnOk r P → OnOk r Q
+on_ok (Ok x) f p = f p
+on_ok (Err e) f p = tt
