@@ -1,4 +1,4 @@
-use Rattle.tb_walk_tests.proofs.walks.walked.Given as goal
+use Rattle.tb_lazy_tests.proofs.walks.walked.Given as goal
 
 abbrev pub ghosts-walk_on : goal.ghosts-walk_on
 ghosts-walk_on a = record { name = a.blank.name; parts = a.blank.parts }
