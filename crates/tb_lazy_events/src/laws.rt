@@ -1,0 +1,22 @@
+ghost use Rattle.std.specs.Prelude.{◌≡◌, ◌<◌, ℕ, List, None, true, false, length};
+ghost use Rattle.std.specs.List.{AllByRecursion};
+ghost use Rattle.tb_perm.specs.declared.perm.Rel.TheVariants.{Local, Foreign};
+ghost use Rattle.tb_perm.specs.Event.{moved_state, refusal_of};
+ghost use Rattle.tb_shape.specs.Tree.{Keys, IsPath};
+ghost use Rattle.tb_marks.specs.Marks.{AreSound};
+ghost use Rattle.tb_marks.specs.Event.{contains, IsVisit};
+ghost use Rattle.tb_walk.specs.Walk.{IsWalk, IsShutOff};
+ghost use Rattle.tb_lazy_rows.specs.Kinds.{kind_at};
+ghost use Rattle.tb_lazy_events.specs.Rows.{Met, IsSized, HasRows, tags_at, is_shut_in, refused_in};
+
+/// A walk in which no tag refuses visits enough at every byte: marks that are sound before the event are sound after
+/// it, and also where it had to be broken off.
+pub fn law_visit()
+    ensures { (tree : Keys) (t byte : ℕ) (path from keys : List ℕ) (met : Met) → AllByRecursion (IsSized (length met.kinds)) met.rows → HasRows tree met.rows → byte < length met.kinds → IsPath tree t path → IsWalk tree path from (is_shut_in met) keys → ((key : ℕ) → contains path key ≡ true → refused_in met Local key ≡ None) → ((key : ℕ) → contains keys key ≡ true → refused_in met Foreign key ≡ None) → IsVisit tree path keys (kind_at met.kinds byte) (tags_at met.rows byte) }
+{}
+
+/// Where marks are sound, a tag that is shut off neither moves at any byte nor refuses.
+pub fn law_passed_by()
+    ensures still { (tree : Keys) (byte key : ℕ) (path : List ℕ) (met : Met) → AllByRecursion (IsSized (length met.kinds)) met.rows → byte < length met.kinds → AreSound tree (tags_at met.rows byte) → IsShutOff tree path (is_shut_in met) key → moved_state (kind_at met.kinds byte) ((tags_at met.rows byte).guarded key) Foreign ((tags_at met.rows byte).state key) ≡ (tags_at met.rows byte).state key }
+    ensures silent { (tree : Keys) (byte key : ℕ) (path : List ℕ) (met : Met) → AllByRecursion (IsSized (length met.kinds)) met.rows → byte < length met.kinds → AreSound tree (tags_at met.rows byte) → IsShutOff tree path (is_shut_in met) key → refusal_of (kind_at met.kinds byte) ((tags_at met.rows byte).guarded key) Foreign ((tags_at met.rows byte).state key) ≡ None }
+{}

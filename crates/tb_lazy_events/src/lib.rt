@@ -1,0 +1,8 @@
+//! An event on the rows of a lazy tree: which tags it meets, and why it can pass by the others.
+#![tactic(auto)]
+
+mod laws;
+mod meeting;
+
+pub use laws::{law_passed_by, law_visit};
+pub use meeting::Meeting;
