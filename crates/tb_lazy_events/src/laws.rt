@@ -1,12 +1,15 @@
-ghost use Rattle.std.specs.Prelude.{◌≡◌, ◌<◌, ℕ, List, None, true, false, length};
+ghost use Rattle.std.specs.Prelude.{◌≡◌, ◌<◌, ℕ, List, Option, None, true, false, length};
 ghost use Rattle.std.specs.List.{AllByRecursion};
+ghost use Rattle.tb_perm.specs.declared.perm.Kind.{Kind};
 ghost use Rattle.tb_perm.specs.declared.perm.Rel.TheVariants.{Local, Foreign};
 ghost use Rattle.tb_perm.specs.Event.{moved_state, refusal_of};
 ghost use Rattle.tb_shape.specs.Tree.{Keys, IsPath};
-ghost use Rattle.tb_marks.specs.Marks.{AreSound};
+ghost use Rattle.tb_marks.specs.Marks.{AtByte, AreSound};
+ghost use Rattle.tb_marks.specs.Stages.{IsStage};
 ghost use Rattle.tb_marks.specs.Event.{contains, IsVisit};
 ghost use Rattle.tb_walk.specs.Walk.{IsWalk, IsShutOff};
 ghost use Rattle.tb_lazy_rows.specs.Kinds.{kind_at};
+ghost use Rattle.tb_lazy_events.specs.Phases.{IsLowering, IsMoving, IsRaising};
 ghost use Rattle.tb_lazy_events.specs.Rows.{Met, IsSized, HasRows, tags_at, is_shut_in, refused_in};
 
 /// A walk in which no tag refuses visits enough at every byte: marks that are sound before the event are sound after
@@ -19,4 +22,12 @@ pub fn law_visit()
 pub fn law_passed_by()
     ensures still { (tree : Keys) (byte key : ℕ) (path : List ℕ) (met : Met) → AllByRecursion (IsSized (length met.kinds)) met.rows → byte < length met.kinds → AreSound tree (tags_at met.rows byte) → IsShutOff tree path (is_shut_in met) key → moved_state (kind_at met.kinds byte) ((tags_at met.rows byte).guarded key) Foreign ((tags_at met.rows byte).state key) ≡ (tags_at met.rows byte).state key }
     ensures silent { (tree : Keys) (byte key : ℕ) (path : List ℕ) (met : Met) → AllByRecursion (IsSized (length met.kinds)) met.rows → byte < length met.kinds → AreSound tree (tags_at met.rows byte) → IsShutOff tree path (is_shut_in met) key → refusal_of (kind_at met.kinds byte) ((tags_at met.rows byte).guarded key) Foreign ((tags_at met.rows byte).state key) ≡ None }
+{}
+
+/// An event that is carried out in three phases can be broken off anywhere: first marks on its way are lowered, then
+/// states are moved, then marks of the visited tags off the way are raised.
+pub fn law_phases()
+    ensures lowering { (tree : Keys) (t : ℕ) (path keys : List ℕ) (kind : Option Kind) (old now : AtByte) → IsPath tree t path → IsLowering path kind old now → IsStage tree path keys kind old now }
+    ensures moving { (tree : Keys) (t : ℕ) (path keys : List ℕ) (kind : Option Kind) (old now : AtByte) → IsPath tree t path → IsMoving path keys kind old now → IsStage tree path keys kind old now }
+    ensures raising { (tree : Keys) (t : ℕ) (path keys : List ℕ) (kind : Option Kind) (old now : AtByte) → IsPath tree t path → IsRaising path keys kind old now → IsStage tree path keys kind old now }
 {}
