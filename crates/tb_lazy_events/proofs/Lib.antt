@@ -1,3 +1,4 @@
-pub mod Search
-pub mod Visits
 pub mod Phases
+pub mod Search
+pub mod Seen
+pub mod Visits

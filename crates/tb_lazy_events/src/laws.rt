@@ -3,6 +3,10 @@ ghost use Rattle.std.specs.List.{AllByRecursion};
 ghost use Rattle.tb_perm.specs.declared.perm.Kind.{Kind};
 ghost use Rattle.tb_perm.specs.declared.perm.Rel.TheVariants.{Local, Foreign};
 ghost use Rattle.tb_perm.specs.Event.{moved_state, refusal_of};
+ghost use Rattle.tb_perm.specs.Marked.{leaves_alone, Marked};
+ghost use Rattle.tb_plain.specs.Plain.{IsPlain};
+ghost use Rattle.tb_lazy_rows.specs.declared.row.LazyRow.{LazyRow};
+ghost use Rattle.tb_lazy_events.specs.Seen.{plain_rows, seen_in};
 ghost use Rattle.tb_shape.specs.Tree.{Keys, IsPath};
 ghost use Rattle.tb_marks.specs.Marks.{AtByte, AreSound};
 ghost use Rattle.tb_marks.specs.Stages.{IsStage};
@@ -10,7 +14,7 @@ ghost use Rattle.tb_marks.specs.Event.{contains, IsVisit};
 ghost use Rattle.tb_walk.specs.Walk.{IsWalk, IsShutOff};
 ghost use Rattle.tb_lazy_rows.specs.Kinds.{kind_at};
 ghost use Rattle.tb_lazy_events.specs.Phases.{IsLowering, IsMoving, IsRaising};
-ghost use Rattle.tb_lazy_events.specs.Rows.{Met, IsSized, HasRows, tags_at, is_shut_in, refused_in};
+ghost use Rattle.tb_lazy_events.specs.Rows.{Met, AreRising, IsSized, HasRows, tags_at, is_shut_in, refused_in};
 
 /// A walk in which no tag refuses visits enough at every byte: marks that are sound before the event are sound after
 /// it, and also where it had to be broken off.
@@ -30,4 +34,10 @@ pub fn law_phases()
     ensures lowering { (tree : Keys) (t : ℕ) (path keys : List ℕ) (kind : Option Kind) (old now : AtByte) → IsPath tree t path → IsLowering path kind old now → IsStage tree path keys kind old now }
     ensures moving { (tree : Keys) (t : ℕ) (path keys : List ℕ) (kind : Option Kind) (old now : AtByte) → IsPath tree t path → IsMoving path keys kind old now → IsStage tree path keys kind old now }
     ensures raising { (tree : Keys) (t : ℕ) (path keys : List ℕ) (kind : Option Kind) (old now : AtByte) → IsPath tree t path → IsRaising path keys kind old now → IsStage tree path keys kind old now }
+{}
+
+/// A mark of a tag, where marks are sound, says that the subtree of the tag is marked: foreign accesses of each kind that
+/// the mark leaves alone change nothing there, and no tag there refuses them.
+pub fn law_marked()
+    ensures { (tree : Keys) (size byte tag : ℕ) (kind : Kind) (rows : List LazyRow) → IsPlain tree (plain_rows rows) size → AreRising rows → AreSound tree (tags_at rows byte) → leaves_alone ((tags_at rows byte).mark tag) kind ≡ true → Marked (seen_in tree rows) tag byte kind }
 {}
