@@ -1,7 +1,7 @@
 -- Sound marks say of the rows what the definition of marked subtrees says.
-use Rattle.std.proofs.Common.{◌≡◌, ◌∙◌, ◌||◌, ℕ, ◌<◌, Bool, true, false, cond, List, [], ◌∷◌, map, refl, ap, sym, subst, arith, ◌==◌, Option, Some, None}
+use Rattle.std.proofs.Common.{◌≡◌, ◌∙◌, ℕ, ◌<◌, true, false, cond, List, [], ◌∷◌, refl, ap, subst, arith, ◌==◌, Some}
 use Rattle.std.specs.Prelude.{unwrap_or, option_map}
-use Rattle.std.specs.List.{AllByRecursion, list_any, slice_get}
+use Rattle.std.specs.List.{AllByRecursion, slice_get}
 use Rattle.std.proofs.lemmas.Bool.{eq-eqb, ne_eqb, or_left, or_right}
 use Rattle.std.proofs.lemmas.List.Elements.{All-from_recursion}
 use Rattle.std.proofs.lemmas.Option.{unwrap_or-slice_get}
@@ -10,13 +10,13 @@ use Rattle.tb_perm.specs.declared.perm.State.{State}
 use Rattle.tb_perm.specs.declared.perm.Perm.TheVariants.{Disabled}
 use Rattle.tb_perm.specs.Table.{IsIdle, is_guarded}
 use Rattle.tb_perm.specs.Marked.{leaves_alone, Marked}
-use Rattle.tb_perm.specs.Rows.{Row, is_tag, HasTag, is_on_path, state_at as state_of}
+use Rattle.tb_perm.specs.Rows.{Row, HasTag, is_on_path, state_at as state_of}
 use Rattle.tb_shape.specs.Tree.{Keys}
 use Rattle.tb_marks.specs.Marks.{AreSound}
 use Rattle.tb_plain.specs.Plain.{IsPlain}
 use Rattle.tb_plain.proofs.Paths.{on_path_ancestor}
 use Rattle.tb_lazy_rows.specs.declared.row.LazyRow.{LazyRow}
-use Rattle.tb_lazy_events.specs.Rows.{is_row, row_of, AreRising, state_at, tags_at}
+use Rattle.tb_lazy_events.specs.Rows.{row_of, AreRising, state_at, tags_at}
 use Rattle.tb_lazy_events.specs.Seen.{plain_rows, seen_in}
 
 later_found : (x : LazyRow) (xs zs : List LazyRow) → AllByRecursion (λ (z : LazyRow). x.tag.0 < z.tag.0) zs → AllByRecursion (λ (z : LazyRow). row_of xs z.tag.0 ≡ Some z) zs → AllByRecursion (λ (z : LazyRow). row_of (x ∷ xs) z.tag.0 ≡ Some z) zs

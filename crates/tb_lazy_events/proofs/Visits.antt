@@ -1,5 +1,5 @@
 -- What the rows of a walk's tags are at a byte.
-use Rattle.std.proofs.Common.{◌≡◌, ◌∙◌, ◌+◌, ◌≤◌, ◌<◌, ◌&&◌, ℕ, zero, suc, Bool, true, false, cond, List, [], ◌∷◌, length, refl, ap, sym, subst, arith, find, is_some, ◌==◌, Option, Some, None}
+use Rattle.std.proofs.Common.{◌≡◌, ◌∙◌, ◌+◌, ◌≤◌, ◌<◌, ◌&&◌, ◌⊎◌, ℕ, zero, suc, Bool, true, false, cond, List, [], ◌∷◌, length, refl, ap, sym, subst, arith, find, is_some, ◌==◌, Option, Some, None, inl, inr}
 use Rattle.std.specs.Prelude.{option_map, unwrap_or, IsSome}
 use Rattle.std.specs.Option.{option_and_then}
 use Rattle.std.specs.List.{AllByRecursion, range_with_len, slice_get}
@@ -15,12 +15,12 @@ use Rattle.tb_perm.specs.declared.perm.Perm.TheVariants.{Disabled}
 use Rattle.tb_perm.specs.declared.report.Refusal.{Refusal}
 use Rattle.tb_perm.specs.Table.{is_guarded}
 use Rattle.tb_perm.specs.Event.{moved_state, refusal_of}
-use Rattle.tb_shape.specs.Tree.{Keys, IsPath}
+use Rattle.tb_shape.specs.Tree.{Keys, HasKey, IsPath}
 use Rattle.tb_marks.specs.Marks.{AreSound}
-use Rattle.tb_marks.specs.Event.{contains, leaves_at, IsShut, IsVisit}
+use Rattle.tb_marks.specs.Event.{contains, leaves_at, visited, IsShut, IsVisit}
 use Rattle.tb_marks.proofs.Trees.{way_there}
 use Rattle.tb_marks.proofs.Sound.{shut_still, shut_silent}
-use Rattle.tb_walk.specs.Walk.{IsWalk, IsShutOff}
+use Rattle.tb_walk.specs.Walk.{IsWalk, IsShutOff, IsPassedBy}
 use Rattle.tb_lazy_rows.specs.declared.row.LazyRow.{LazyRow}
 use Rattle.tb_lazy_rows.specs.Kinds.{kind_at, refuses_at, first_refusal, are_left_alone}
 use Rattle.tb_lazy_events.specs.Rows.{is_row, row_of, IsSized, HasRows, mark_at, state_at, tags_at, Met, is_shut_in, refused_in}
@@ -116,3 +116,28 @@ module _ (tree : Keys) (byte : ℕ) (met : Met) (sized : AllByRecursion (IsSized
 
     pub passed_silent : refusal_of (kind_at met.kinds byte) ((tags_at met.rows byte).guarded key) Foreign ((tags_at met.rows byte).state key) ≡ None
     passed_silent = shut_silent tree path [] (kind_at met.kinds byte) (tags_at met.rows byte) sound key (shut_off path key off)
+
+  -- after a walk each tag of the tree that is not passed by has met the event, whether it was visited or not
+  module _ (path from keys : List ℕ) (walk : IsWalk tree path from (is_shut_in met) keys) (sound : AreSound tree (tags_at met.rows byte)) (key : ℕ) (there : HasKey tree key) (met_by : IsPassedBy tree path from key → ⊥) where
+    shut : contains path key ≡ false → contains keys key ≡ false → IsShutOff tree path (is_shut_in met) key
+    shut off lacks = at (walk.whole key there off lacks)
+      where
+        at : IsShutOff tree path (is_shut_in met) key ⊎ IsPassedBy tree path from key → IsShutOff tree path (is_shut_in met) key
+        at (inl off) = off
+        at (inr by) = absurd (met_by by)
+
+    pub walk_moves : (visited path keys (kind_at met.kinds byte) (tags_at met.rows byte)).state key ≡ moved_state (kind_at met.kinds byte) ((tags_at met.rows byte).guarded key) (cond (contains path key) Local Foreign) ((tags_at met.rows byte).state key)
+    walk_moves = at (contains path key) refl (contains keys key) refl
+      where
+        at : (b : Bool) → contains path key ≡ b → (c : Bool) → contains keys key ≡ c → cond b (moved_state (kind_at met.kinds byte) ((tags_at met.rows byte).guarded key) Local ((tags_at met.rows byte).state key)) (cond c (moved_state (kind_at met.kinds byte) ((tags_at met.rows byte).guarded key) Foreign ((tags_at met.rows byte).state key)) ((tags_at met.rows byte).state key)) ≡ moved_state (kind_at met.kinds byte) ((tags_at met.rows byte).guarded key) (cond b Local Foreign) ((tags_at met.rows byte).state key)
+        at true on c has = refl
+        at false off true has = refl
+        at false off false lacks = sym (passed_still path sound key (shut off lacks))
+
+    pub walk_silent : HasRows tree met.rows → ((k : ℕ) → contains path k ≡ true → refused_in met Local k ≡ None) → ((k : ℕ) → contains keys k ≡ true → refused_in met Foreign k ≡ None) → refusal_of (kind_at met.kinds byte) ((tags_at met.rows byte).guarded key) (cond (contains path key) Local Foreign) ((tags_at met.rows byte).state key) ≡ None
+    walk_silent rows local foreign = at (contains path key) refl (contains keys key) refl
+      where
+        at : (b : Bool) → contains path key ≡ b → (c : Bool) → contains keys key ≡ c → refusal_of (kind_at met.kinds byte) ((tags_at met.rows byte).guarded key) (cond b Local Foreign) ((tags_at met.rows byte).state key) ≡ None
+        at true on c has = passes Local key (rows key there) (local key on)
+        at false off true has = passes Foreign key (rows key there) (foreign key has)
+        at false off false lacks = passed_silent path sound key (shut off lacks)

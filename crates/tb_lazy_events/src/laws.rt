@@ -1,4 +1,4 @@
-ghost use Rattle.std.specs.Prelude.{◌≡◌, ◌<◌, ℕ, List, Option, None, true, false, length};
+ghost use Rattle.std.specs.Prelude.{◌≡◌, ◌<◌, ℕ, cond, List, Option, None, true, false, length};
 ghost use Rattle.std.specs.List.{AllByRecursion};
 ghost use Rattle.tb_perm.specs.declared.perm.Kind.{Kind};
 ghost use Rattle.tb_perm.specs.declared.perm.Rel.TheVariants.{Local, Foreign};
@@ -7,11 +7,11 @@ ghost use Rattle.tb_perm.specs.Marked.{leaves_alone, Marked};
 ghost use Rattle.tb_plain.specs.Plain.{IsPlain};
 ghost use Rattle.tb_lazy_rows.specs.declared.row.LazyRow.{LazyRow};
 ghost use Rattle.tb_lazy_events.specs.Seen.{plain_rows, seen_in};
-ghost use Rattle.tb_shape.specs.Tree.{Keys, IsPath};
+ghost use Rattle.tb_shape.specs.Tree.{Keys, HasKey, IsPath};
 ghost use Rattle.tb_marks.specs.Marks.{AtByte, AreSound};
 ghost use Rattle.tb_marks.specs.Stages.{IsStage};
-ghost use Rattle.tb_marks.specs.Event.{contains, IsVisit};
-ghost use Rattle.tb_walk.specs.Walk.{IsWalk, IsShutOff};
+ghost use Rattle.tb_marks.specs.Event.{contains, visited, IsVisit};
+ghost use Rattle.tb_walk.specs.Walk.{IsWalk, IsShutOff, IsPassedBy};
 ghost use Rattle.tb_lazy_rows.specs.Kinds.{kind_at};
 ghost use Rattle.tb_lazy_events.specs.Phases.{IsLowering, IsMoving, IsRaising};
 ghost use Rattle.tb_lazy_events.specs.Rows.{Met, AreRising, IsSized, HasRows, tags_at, is_shut_in, refused_in};
@@ -26,6 +26,14 @@ pub fn law_visit()
 pub fn law_passed_by()
     ensures still { (tree : Keys) (byte key : ℕ) (path : List ℕ) (met : Met) → AllByRecursion (IsSized (length met.kinds)) met.rows → byte < length met.kinds → AreSound tree (tags_at met.rows byte) → IsShutOff tree path (is_shut_in met) key → moved_state (kind_at met.kinds byte) ((tags_at met.rows byte).guarded key) Foreign ((tags_at met.rows byte).state key) ≡ (tags_at met.rows byte).state key }
     ensures silent { (tree : Keys) (byte key : ℕ) (path : List ℕ) (met : Met) → AllByRecursion (IsSized (length met.kinds)) met.rows → byte < length met.kinds → AreSound tree (tags_at met.rows byte) → IsShutOff tree path (is_shut_in met) key → refusal_of (kind_at met.kinds byte) ((tags_at met.rows byte).guarded key) Foreign ((tags_at met.rows byte).state key) ≡ None }
+{}
+
+/// Where marks are sound, a walk leaves every tag of the tree as the event asks: the state of each is moved, as local on
+/// the way and as foreign off it, whether the tag was visited or not, but for the tags that the event passes by; and where
+/// no tag of the way and no visited tag refuses, none does.
+pub fn law_whole()
+    ensures moved { (tree : Keys) (byte key : ℕ) (path from keys : List ℕ) (met : Met) → AllByRecursion (IsSized (length met.kinds)) met.rows → byte < length met.kinds → IsWalk tree path from (is_shut_in met) keys → AreSound tree (tags_at met.rows byte) → HasKey tree key → (IsPassedBy tree path from key → ⊥) → (visited path keys (kind_at met.kinds byte) (tags_at met.rows byte)).state key ≡ moved_state (kind_at met.kinds byte) ((tags_at met.rows byte).guarded key) (cond (contains path key) Local Foreign) ((tags_at met.rows byte).state key) }
+    ensures silent { (tree : Keys) (byte key : ℕ) (path from keys : List ℕ) (met : Met) → AllByRecursion (IsSized (length met.kinds)) met.rows → byte < length met.kinds → IsWalk tree path from (is_shut_in met) keys → AreSound tree (tags_at met.rows byte) → HasKey tree key → (IsPassedBy tree path from key → ⊥) → HasRows tree met.rows → ((k : ℕ) → contains path k ≡ true → refused_in met Local k ≡ None) → ((k : ℕ) → contains keys k ≡ true → refused_in met Foreign k ≡ None) → refusal_of (kind_at met.kinds byte) ((tags_at met.rows byte).guarded key) (cond (contains path key) Local Foreign) ((tags_at met.rows byte).state key) ≡ None }
 {}
 
 /// An event that is carried out in three phases can be broken off anywhere: first marks on its way are lowered, then

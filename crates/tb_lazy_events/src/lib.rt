@@ -4,5 +4,5 @@
 mod laws;
 mod meeting;
 
-pub use laws::{law_marked, law_passed_by, law_phases, law_visit};
+pub use laws::{law_marked, law_passed_by, law_phases, law_visit, law_whole};
 pub use meeting::Meeting;
