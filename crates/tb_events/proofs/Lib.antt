@@ -1,2 +1,4 @@
 pub mod Keeping
 pub mod Making
+pub mod Drawing
+pub mod Ending

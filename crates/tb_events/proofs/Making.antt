@@ -34,7 +34,7 @@ known_made memory prov h = by_found (allocation_at memory.table prov.alloc.0) re
     by_found None e k = absurd (true≢false (sym k))
     by_found (Some a) e k = made_within memory.table prov.alloc.0 a e
 
-more_tags : (tags : ℕ) (rows : List Row) → AllByRecursion (λ (row : Row). row.tag ≤ tags) rows → AllByRecursion (λ (row : Row). row.tag ≤ tags + 1) rows
+pub more_tags : (tags : ℕ) (rows : List Row) → AllByRecursion (λ (row : Row). row.tag ≤ tags) rows → AllByRecursion (λ (row : Row). row.tag ≤ tags + 1) rows
 more_tags tags [] h = tt
 more_tags tags (row ∷ rows) h = let low : row.tag ≤ tags = h.0 in ((let up : row.tag ≤ tags + 1 = omega arith in up), more_tags tags rows h.1)
 

@@ -1,2 +1,4 @@
 pub mod Memory
 pub mod Sound
+pub mod Calls
+pub mod Guarding

@@ -2,6 +2,7 @@
 //! what each event does to one allocation.
 #![tactic(auto)]
 
+mod calls;
 mod memory;
 
 pub use memory::Memory;

@@ -1,21 +1,26 @@
-ghost use Rattle.std.specs.Prelude.{◌≡◌, ◌<◌, ◌≤◌, ◌+◌, ◌-◌, ◌^◌, true, Some, length, IfOk, OnOk, OnErr, IsErrOf};
+ghost use Rattle.std.specs.Prelude.{◌≡◌, ◌≢◌, ◌<◌, ◌≤◌, ◌+◌, ◌-◌, ◌^◌, true, Some, length, IfOk, OnOk, OnErr, IsErrOf, All};
 ghost use Rattle.std.specs.List.{slice_range, splice};
 ghost use Rattle.tb_perm.specs.declared.tag.Prov.{Prov};
 ghost use Rattle.tb_perm.specs.Answer.{Answers, OnBorrow, OnMemory};
 ghost use Rattle.tb_perm.specs.Access.{accessed, access_report};
 ghost use Rattle.tb_perm.specs.Deallocation.{dealloc_report};
+ghost use Rattle.tb_perm.specs.Reborrow.{AreCells, reborrow_report};
+ghost use Rattle.tb_perm.specs.Release.{released, release_report};
+ghost use Rattle.tb_perm.specs.declared.perm.Guard.TheVariants.{Free};
+ghost use Rattle.tb_protect.specs.Frames.{kind_of};
 ghost use Rattle.tb_alloc.specs.declared.allocation.Allocation.{Allocation};
 ghost use Rattle.tb_alloc.specs.Allocations.{allocation_at, live_bytes_of, live_limit};
 ghost use Rattle.tb_value.specs.Provs.{passes, all_pass};
 ghost use Rattle.tb_store.specs.Store.{bytes_at};
 
+use crate::calls::{guard_made, unguard_all};
 use std::alloc::{AllocError as MemoryError, Global};
 use std::marker::Model;
 use std::sync::ledger::Ledger;
 use tb_alloc::{AllocError, AllocKind, Allocs, Ptr};
 use tb_bytes::ByteVal;
 use tb_forest::Forest;
-use tb_perm::{AllocId, BorrowTree, Kind, Prov, Span, Steps, Tag, TreeError};
+use tb_perm::{AllocId, BorrowTree, Kind, NewTag, Prov, Span, Steps, Tag, TreeError};
 use tb_protect::Protectors;
 use tb_store::Store;
 
@@ -57,6 +62,7 @@ fn base_at(table: &Allocs, id: AllocId) -> u64
 impl<T: BorrowTree> Memory<T> {
     ghost use Rattle.tb_forest.specs.Forest.{TreeRows};
     ghost use Rattle.tb_events.specs.Memory.{no_memory, rows_at, size_at, reaches, knows, with_made, made_pointer, with_rows, with_bytes, without, Keeps};
+    ghost use Rattle.tb_events.specs.Calls.{prov_made, prov_parent, with_tag, with_call, guarded_now, without_call};
     ghost use Rattle.tb_events.specs.Sound.{IsSound};
 
     /// A memory without allocations and calls.
@@ -225,5 +231,111 @@ impl<T: BorrowTree> Memory<T> {
                 Err(error)
             }
         }
+    }
+
+    /// The tag that is drawn next.
+    pub fn next_tag(&self) -> Tag
+        requires { self.now.tags < 2 ^ 62 }
+        ensures { result.0 ≡ self.now.tags + 1 }
+    {
+        Tag(self.tags + 1)
+    }
+
+    /// A reborrow, which draws the next tag where it is not refused. A guarded tag is guarded by the running call.
+    pub fn reborrow<L: Ledger>(
+        &mut self,
+        alloc: AllocId,
+        new: NewTag,
+        steps: &mut Steps<L>,
+    ) -> Result<(), TreeError>
+        requires parent { reaches self.old (prov_parent alloc new) ≡ true }
+        requires next { new.tag.0 ≡ self.old.tags + 1 }
+        requires range { new.lo ≤ new.hi }
+        requires end { new.hi ≤ size_at self.old alloc.0 }
+        requires cells { AreCells new.lo new.hi new.cells }
+        requires call { new.guard ≢ Free → 0 < length self.old.frames }
+        ensures moved { OnOk result (self.new ≡ with_tag self.old alloc new) }
+        ensures answer { Answers (reborrow_report (rows_at self.old alloc.0) (size_at self.old alloc.0) new) result }
+        ensures refused { OnBorrow result (self.new ≡ self.old) }
+        ensures gone { OnMemory result (self.new ≡ without self.old alloc.0) }
+        ensures known { OnOk result (knows self.new (prov_made alloc new) ≡ true) }
+        ensures keeps { Keeps self.old self.new }
+        ensures counted { steps.old ≤ steps.new }
+    {
+        let made = Prov {
+            alloc,
+            tag: new.tag,
+        };
+        let guard = new.guard;
+        match self.forest.retag(alloc, new, steps) {
+            Ok(()) => match guard_made(&mut self.frames, made, guard) {
+                Ok(()) => {
+                    self.tags = made.tag.0;
+                    Ok(())
+                }
+                Err(_) => {
+                    self.forest.clear(alloc);
+                    self.store.kill(alloc);
+                    Err(TreeError::Memory)
+                }
+            },
+            Err(TreeError::Borrow(report)) => Err(TreeError::Borrow(report)),
+            Err(TreeError::Memory) => {
+                self.store.kill(alloc);
+                Err(TreeError::Memory)
+            }
+        }
+    }
+
+    /// A call begins. After want of memory nothing has changed.
+    pub fn begin_call(&mut self) -> Result<(), MemoryError>
+        ensures ok { OnOk result (self.new ≡ with_call self.old) }
+        ensures err { OnErr result (self.new ≡ self.old) }
+        ensures keeps { Keeps self.old self.new }
+    {
+        self.frames.push_frame()
+    }
+
+    /// What the running call guards, in the order in which it came.
+    pub fn guarded(&self) -> &[Prov]
+        requires { 0 < length self.now.frames }
+        ensures value { result.now ≡ guarded_now self.now }
+        ensures known { All (λ (prov : Prov). knows self.now prov ≡ true) result.now }
+    {
+        self.frames.frame_list()
+    }
+
+    /// The accesses of a guarded tag at the end of its call. Its guard stays.
+    pub fn release<L: Ledger>(&mut self, prov: Prov, steps: &mut Steps<L>) -> Result<(), TreeError>
+        requires { reaches self.old prov ≡ true }
+        ensures moved { OnOk result (self.new ≡ with_rows self.old prov.alloc.0 (λ (tree : TreeRows). released tree.rows prov.tag.0)) }
+        ensures answer { Answers (release_report (rows_at self.old prov.alloc.0) (size_at self.old prov.alloc.0) prov.tag.0) result }
+        ensures refused { OnBorrow result (self.new ≡ self.old) }
+        ensures gone { OnMemory result (self.new ≡ without self.old prov.alloc.0) }
+        ensures keeps { Keeps self.old self.new }
+        ensures counted { steps.old ≤ steps.new }
+    {
+        match self.forest.release(prov.alloc, prov.tag, steps) {
+            Ok(()) => Ok(()),
+            Err(TreeError::Borrow(report)) => Err(TreeError::Borrow(report)),
+            Err(TreeError::Memory) => {
+                self.store.kill(prov.alloc);
+                Err(TreeError::Memory)
+            }
+        }
+    }
+
+    /// The running call is over, and its guards go.
+    pub fn finish_call(&mut self)
+        requires { 0 < length self.old.frames }
+        ensures done { self.new ≡ without_call self.old }
+        ensures keeps { Keeps self.old self.new }
+    {
+        unguard_all(
+            &mut self.forest,
+            self.store.table(),
+            self.frames.frame_list(),
+        );
+        self.frames.pop_frame();
     }
 }
