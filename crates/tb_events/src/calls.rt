@@ -14,12 +14,14 @@ use tb_perm::{BorrowTree, Guard, Prov};
 use tb_protect::Protectors;
 
 /// The running call guards a provenance so, unless it is free. After want of memory nothing is changed.
+#[tactic(auto, using(crate::proofs::Counting::same_calls))]
 pub fn guard_made(frames: &mut Protectors, prov: Prov, guard: Guard) -> Result<(), AllocError>
     requires frame { guard ≢ NoGuard → 0 < length frames.old }
     requires fresh { kind_of frames.old prov ≡ NoGuard }
     ensures ok { OnOk result (frames.new ≡ with_guard prov guard frames.old) }
     ensures kinds { OnOk result ((asked : Prov) → kind_of frames.new asked ≡ cond (is_prov asked prov) guard (kind_of frames.old asked)) }
     ensures err { OnErr result (frames.new ≡ frames.old) }
+    ensures calls { length frames.new ≡ length frames.old }
 {
     match guard {
         Guard::Free => Ok(()),

@@ -121,6 +121,8 @@ impl<T: BorrowTree> Memory<T> {
         ensures err { OnErr result (self.new ≡ self.old) }
         ensures known { IfOk result (λ ptr. passes (knows self.new) ptr.prov ≡ true) }
         ensures keeps { Keeps self.old self.new }
+        ensures calls { length self.new.frames ≡ length self.old.frames }
+        ensures drawn { self.new.tags ≤ self.old.tags + 1 }
     {
         let tag = self.tags + 1;
         let Ok(()) = self.forest.plant(self.alloc, size, Tag(tag), made) else {
@@ -165,6 +167,8 @@ impl<T: BorrowTree> Memory<T> {
         ensures reached { OnOk result (reaches self.new prov ≡ true) }
         ensures known { OnOk result ((asked : Prov) → knows self.new asked ≡ knows self.old asked) }
         ensures keeps { Keeps self.old self.new }
+        ensures calls { length self.new.frames ≡ length self.old.frames }
+        ensures drawn { self.new.tags ≡ self.old.tags }
         ensures counted { steps.old ≤ steps.new }
     {
         match self
@@ -188,6 +192,8 @@ impl<T: BorrowTree> Memory<T> {
         ensures refused { OnBorrow result (self.new ≡ self.old) }
         ensures gone { OnMemory result (self.new ≡ without self.old prov.alloc.0) }
         ensures keeps { Keeps self.old self.new }
+        ensures calls { length self.new.frames ≡ length self.old.frames }
+        ensures drawn { self.new.tags ≡ self.old.tags }
         ensures counted { steps.old ≤ steps.new }
     {
         match self.forest.fell(prov.alloc, prov.tag, steps) {
@@ -223,6 +229,8 @@ impl<T: BorrowTree> Memory<T> {
         ensures ok { OnOk result (self.new ≡ with_bytes self.old prov.alloc.0 (splice (bytes_at self.old.contents prov.alloc.0) lo (lo + length bytes.now) bytes.now)) }
         ensures gone { OnErr result (self.new ≡ without self.old prov.alloc.0) }
         ensures keeps { Keeps self.old self.new }
+        ensures calls { length self.new.frames ≡ length self.old.frames }
+        ensures drawn { self.new.tags ≡ self.old.tags }
     {
         match self.store.write(prov.alloc, lo, bytes) {
             Ok(()) => Ok(()),
@@ -260,6 +268,8 @@ impl<T: BorrowTree> Memory<T> {
         ensures gone { OnMemory result (self.new ≡ without self.old alloc.0) }
         ensures known { OnOk result (knows self.new (prov_made alloc new) ≡ true) }
         ensures keeps { Keeps self.old self.new }
+        ensures calls { length self.new.frames ≡ length self.old.frames }
+        ensures drawn { self.new.tags ≤ self.old.tags + 1 }
         ensures counted { steps.old ≤ steps.new }
     {
         let made = Prov {
@@ -292,6 +302,8 @@ impl<T: BorrowTree> Memory<T> {
         ensures ok { OnOk result (self.new ≡ with_call self.old) }
         ensures err { OnErr result (self.new ≡ self.old) }
         ensures keeps { Keeps self.old self.new }
+        ensures calls { OnOk result (length self.new.frames ≡ length self.old.frames + 1) }
+        ensures drawn { self.new.tags ≡ self.old.tags }
     {
         self.frames.push_frame()
     }
@@ -313,6 +325,8 @@ impl<T: BorrowTree> Memory<T> {
         ensures refused { OnBorrow result (self.new ≡ self.old) }
         ensures gone { OnMemory result (self.new ≡ without self.old prov.alloc.0) }
         ensures keeps { Keeps self.old self.new }
+        ensures calls { length self.new.frames ≡ length self.old.frames }
+        ensures drawn { self.new.tags ≡ self.old.tags }
         ensures counted { steps.old ≤ steps.new }
     {
         match self.forest.release(prov.alloc, prov.tag, steps) {
@@ -326,10 +340,13 @@ impl<T: BorrowTree> Memory<T> {
     }
 
     /// The running call is over, and its guards go.
+    #[tactic(auto, using(crate::proofs::Counting::below_one))]
     pub fn finish_call(&mut self)
         requires { 0 < length self.old.frames }
         ensures done { self.new ≡ without_call self.old }
         ensures keeps { Keeps self.old self.new }
+        ensures calls { length self.new.frames + 1 ≡ length self.old.frames }
+        ensures drawn { self.new.tags ≡ self.old.tags }
     {
         unguard_all(
             &mut self.forest,

@@ -3,6 +3,7 @@ use Rattle.std.proofs.Common.{◌≡◌, refl, ap, subst, inl, inr, ℕ, ◌+◌
 use Rattle.std.proofs.lemmas.Bool.{ltb-true, ltb-false}
 use Rattle.tb_perm.specs.declared.span.Span.{Span}
 use Rattle.tb_perm.specs.declared.tag.Prov.{Prov}
+use Rattle.tb_perm.specs.declared.tag.Tag.{Tag}
 use Rattle.tb_perm.specs.declared.report.Report.{Report}
 use Rattle.tb_perm.specs.declared.report.TreeError.{TreeError}
 use Rattle.tb_perm.specs.declared.report.TreeError.TheVariants as tree_error
@@ -59,3 +60,7 @@ stop_answers (Done memory value) next stop now (inl e) = inl (let same : stop �
 stop_answers (Done memory value) next stop now (inr e) = absurd e
 stop_answers (Stopped memory told) next stop now (inl e) = inl (let same : stop ≡ Memory = cc in ap Err same)
 stop_answers (Stopped memory told) next stop now (inr e) = inr e
+
+-- a tag is its number
+pub tag_is : (tag : Tag) (n : ℕ) → tag.0 ≡ n → tag ≡ record { 0 = n }
+tag_is tag n e = ap {B = Tag} (λ k. record { 0 = k }) e

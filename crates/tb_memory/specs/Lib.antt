@@ -1,2 +1,4 @@
 pub mod Heap
 pub mod Answers
+pub mod Retags
+pub mod Calls

@@ -122,3 +122,13 @@ pub fn offset_or_stop(moved: Result<Ptr, OffsetFault>) -> Result<Ptr, Stop>
         Err(OffsetFault::OutOfBounds) => Err(Stop::OutOfBounds),
     }
 }
+
+/// The pointer with the tag that a tree was asked to make, or the stop.
+pub fn reborrow_or_stop(alloc: AllocId, ptr: Ptr, done: Result<(), TreeError>) -> Result<Ptr, Stop>
+    ensures { result ≡ told alloc ptr done }
+{
+    match done {
+        Ok(()) => Ok(ptr),
+        Err(error) => Err(tree_stop(alloc, error)),
+    }
+}
