@@ -1,8 +1,8 @@
 -- How many calls run.
-use Rattle.std.proofs.Common.{◌≡◌, refl, ℕ, zero, suc, ◌+◌, ◌<◌, List, [], ◌∷◌, ◌++◌, length, arith}
+use Rattle.std.proofs.Common.{◌≡◌, refl, ◌+◌, ◌<◌, [], ◌∷◌, length, arith}
 use Rattle.tb_perm.specs.declared.tag.Prov.{Prov}
 use Rattle.tb_perm.specs.declared.perm.Guard.{Guard}
-use Rattle.tb_protect.specs.Frames.{Guarded, Frames, with_guarded, frames_below}
+use Rattle.tb_protect.specs.Frames.{Frames, with_guarded, frames_below}
 
 -- a provenance more is no call more
 pub same_calls : (prov : Prov) (guard : Guard) (frames : Frames) → length (with_guarded prov guard frames) ≡ length frames

@@ -1,25 +1,23 @@
 -- What is true of a memory stays true when a call is over.
-use Rattle.std.proofs.Common.{◌≡◌, ◌≢◌, refl, sym, ◌∙◌, ap, subst, inl, inr, ◌⊎◌, ℕ, zero, suc, ◌+◌, ◌<◌, ◌≤◌, Bool, true, false, true≢false, cond, ◌&&◌, ◌||◌, ◌==◌, List, [], ◌∷◌, length, map, drop, get_or, Option, Some, None, is_some, All, arith}
+use Rattle.std.proofs.Common.{◌≡◌, ◌≢◌, refl, sym, ◌∙◌, ap, subst, inl, inr, ◌⊎◌, ℕ, zero, suc, ◌+◌, ◌<◌, ◌≤◌, Bool, true, false, true≢false, cond, ◌&&◌, ◌||◌, ◌==◌, List, [], ◌∷◌, length, drop, get_or, Option, Some, None, is_some, All, arith}
 use Rattle.std.specs.List.{list_any, AllByRecursion}
 use Rattle.std.proofs.lemmas.Bool.{eqb-true, eq-eqb, ne_eqb}
 use Rattle.std.proofs.lemmas.List.Elements.{recursion_from_All}
 use Rattle.std.proofs.lemmas.List.{drop_more}
-use Rattle.tb_perm.specs.declared.tag.AllocId.{AllocId}
 use Rattle.tb_perm.specs.declared.tag.Prov.{Prov}
 use Rattle.tb_perm.specs.declared.perm.Guard.{Guard}
 use Rattle.tb_perm.specs.declared.perm.Guard.TheVariants.{Free}
-use Rattle.tb_perm.specs.Rows.{Row, HasTag, IsRows, guard_in, unguarded}
+use Rattle.tb_perm.specs.Rows.{Row, HasTag, guard_in, unguarded}
 use Rattle.tb_perm.specs.Tree.{KeepsTree}
 use Rattle.tb_perm.proofs.Kept.{KeepsTree-refl, KeepsTree-chain, unguarded-keeps, list_any-KeepsTree, HasTag-kept, All_tags-kept, IsRows-kept}
 use Rattle.tb_perm.proofs.Found.{guard_in-unguarded, guard_in-other}
 use Rattle.tb_alloc.specs.declared.allocation.Allocation.{Allocation}
 use Rattle.tb_alloc.specs.Allocations.{allocation_at}
 use Rattle.tb_protect.specs.Frames.{Frames, Guarded, is_prov, is_in, kind_of, top_frame, provs_of}
-use Rattle.tb_prune.specs.Guards.{GuardsAre}
 use Rattle.tb_store.specs.Store.{bytes_at, live_at}
 use Rattle.tb_store.proofs.Places.{same_or_not, nth_same, nth_other, length_with}
 use Rattle.tb_forest.specs.Forest.{TreeRows, no_tree, tree_at, changed}
-use Rattle.tb_events.specs.Memory.{RunMemory, rows_at, has_tag, knows_in, knows}
+use Rattle.tb_events.specs.Memory.{RunMemory, rows_at, knows_in, knows}
 use Rattle.tb_events.specs.Calls.{guarded_now, without_guard, without_guards}
 use Rattle.tb_events.specs.Guarding.{IsThere}
 use Rattle.tb_events.specs.Sound.{IsSound}

@@ -1,5 +1,5 @@
 -- Tags that reborrows make, and the calls that guard them.
-use Rattle.std.specs.Prelude.{ℕ, ◌+◌, cond, is_some, List, [], ◌∷◌}
+use Rattle.std.specs.Prelude.{◌+◌, cond, is_some, List, [], ◌∷◌}
 use Rattle.tb_perm.specs.declared.tag.AllocId.{AllocId}
 use Rattle.tb_perm.specs.declared.tag.Prov.{Prov}
 use Rattle.tb_perm.specs.declared.perm.Guard.{Guard}

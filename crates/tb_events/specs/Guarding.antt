@@ -1,5 +1,5 @@
 -- What is true of the provenances whose guards go.
-use Rattle.std.specs.Prelude.{◌≡◌, ℕ, ◌≤◌, true, is_some, List, length}
+use Rattle.std.specs.Prelude.{◌≡◌, ◌≤◌, true, is_some, List, length}
 use Rattle.tb_perm.specs.declared.tag.Prov.{Prov}
 use Rattle.tb_perm.specs.Rows.{HasTag}
 use Rattle.tb_alloc.specs.declared.allocation.Allocation.{Allocation}

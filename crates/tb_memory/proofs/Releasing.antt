@@ -1,8 +1,7 @@
 -- How the releases of tags, one after another, are the releases of all.
-use Rattle.std.proofs.Common.{◌≡◌, refl, sym, ◌∙◌, ap, subst, inl, inr, ℕ, ◌+◌, ◌<◌, ◌≤◌, true, List, [], ◌∷◌, length, drop, get_or, Result, Ok, Err, All, arith}
+use Rattle.std.proofs.Common.{◌≡◌, refl, sym, ◌∙◌, ap, subst, inl, inr, ℕ, ◌+◌, ◌<◌, ◌≤◌, true, List, [], ◌∷◌, length, drop, get_or, Result, Ok, Err}
 use Rattle.std.specs.List.{AllByRecursion}
 use Rattle.std.proofs.lemmas.List.{drop_more, drop_all}
-use Rattle.std.proofs.lemmas.List.Elements.{recursion_from_All}
 use Rattle.tb_perm.specs.declared.tag.Prov.{Prov}
 use Rattle.tb_events.specs.Memory.{RunMemory, knows, Keeps}
 use Rattle.tb_memory.specs.declared.stop.Stop.{Stop}

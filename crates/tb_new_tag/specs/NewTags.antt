@@ -1,5 +1,5 @@
 -- The tag that a retag makes: what it may do at each byte (Tree Borrows, section 4).
-use Rattle.std.specs.Prelude.{ℕ, zero, suc, ◌+◌, ◌*◌, Bool, true, false, cond, ◌||◌, List, [], ◌∷◌, ◌++◌, map, Option, Some, None}
+use Rattle.std.specs.Prelude.{ℕ, zero, suc, ◌+◌, ◌*◌, Bool, true, false, cond, ◌||◌, List, [], ◌++◌, map, Option, Some, None}
 use Rattle.tb_perm.specs.declared.span.Span.{Span}
 use Rattle.tb_perm.specs.declared.tag.Tag.{Tag}
 use Rattle.tb_perm.specs.declared.perm.Perm.{Perm}
@@ -8,7 +8,6 @@ use Rattle.tb_perm.specs.declared.perm.Guard.{Guard}
 use Rattle.tb_perm.specs.declared.perm.Guard.TheVariants.{Free, Weak, Strong}
 use Rattle.tb_perm.specs.declared.new_tag.CellRange.{CellRange}
 use Rattle.tb_perm.specs.declared.new_tag.NewTag.{NewTag}
-use Rattle.tb_types.specs.declared.shape.Ty.{Ty}
 use Rattle.tb_types.specs.Table.{TypeTable}
 use Rattle.tb_types.specs.Facts.{is_freeze}
 use Rattle.tb_types.specs.Extent.{extent_of}

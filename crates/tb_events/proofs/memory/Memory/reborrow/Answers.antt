@@ -1,4 +1,4 @@
-use Rattle.std.proofs.Common.{◌≡◌, ◌≢◌, sym, ◌∙◌, ap, subst, ℕ, ◌+◌, true, List, Ok, Err}
+use Rattle.std.proofs.Common.{◌≡◌, sym, ◌∙◌, ap, subst, ◌+◌, true, List, Ok, Err}
 use Rattle.tb_perm.specs.declared.report.Report.{Report}
 use Rattle.tb_perm.specs.declared.report.TreeError.TheVariants.{Borrow}
 use Rattle.tb_perm.specs.Answer.{Answers}

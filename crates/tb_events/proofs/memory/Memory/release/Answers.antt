@@ -1,4 +1,4 @@
-use Rattle.std.proofs.Common.{◌≡◌, sym, ◌∙◌, ap, subst, true, List, Ok, Err}
+use Rattle.std.proofs.Common.{◌≡◌, sym, ◌∙◌, ap, subst, List, Ok, Err}
 use Rattle.tb_perm.specs.declared.report.TreeError.TheVariants.{Borrow}
 use Rattle.tb_perm.specs.Answer.{Answers}
 use Rattle.tb_perm.specs.Release.{release_event, release_report}

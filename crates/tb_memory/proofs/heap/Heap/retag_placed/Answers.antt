@@ -1,4 +1,4 @@
-use Rattle.std.proofs.Common.{◌≡◌, ◌≢◌, sym, ◌∙◌, ap, subst, ◌+◌, Bool, cond, Option, Some}
+use Rattle.std.proofs.Common.{◌≡◌, ◌≢◌, sym, ◌∙◌, ap, subst, ◌+◌, Bool, cond, Option}
 use Rattle.std.proofs.lemmas.Bool.{ne_eqb}
 use Rattle.tb_perm.specs.declared.tag.Tag.{Tag}
 use Rattle.tb_perm.specs.declared.tag.Prov.{Prov}
