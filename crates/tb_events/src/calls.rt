@@ -13,7 +13,7 @@ use tb_forest::Forest;
 use tb_perm::{BorrowTree, Guard, Prov};
 use tb_protect::Protectors;
 
-/// The running call guards a provenance so, unless it is free. After want of memory nothing is changed.
+/// The running call guards a provenance so, unless it is free. Out of memory leaves all as it was.
 #[tactic(auto, using(crate::proofs::Counting::same_calls))]
 pub fn guard_made(frames: &mut Protectors, prov: Prov, guard: Guard) -> Result<(), AllocError>
     requires frame { guard ≢ NoGuard → 0 < length frames.old }

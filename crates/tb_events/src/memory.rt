@@ -297,7 +297,7 @@ impl<T: BorrowTree> Memory<T> {
         }
     }
 
-    /// A call begins. After want of memory nothing has changed.
+    /// A call begins. Out of memory leaves all as it was.
     pub fn begin_call(&mut self) -> Result<(), MemoryError>
         ensures ok { OnOk result (self.new ≡ with_call self.old) }
         ensures err { OnErr result (self.new ≡ self.old) }

@@ -517,7 +517,7 @@ impl<T: BorrowTree> Heap<T> {
         reborrow_or_stop(prov.alloc, ptr, done)
     }
 
-    /// A call begins, which guards nothing yet. After want of memory nothing has changed.
+    /// A call begins, which guards nothing yet. Out of memory leaves all as it was.
     pub fn begin_call(&mut self) -> Result<(), MemoryError>
         ensures ok { OnOk result (self.new ≡ with_call self.old) }
         ensures err { OnErr result (self.new ≡ self.old) }
