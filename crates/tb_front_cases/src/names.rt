@@ -8,8 +8,9 @@ use tb_lex::{LexError, lex};
 use tb_names::{limit_fault, main_fault, repeat_fault};
 use tb_parse::{ParseError, parse};
 use tb_perm::{Code, Span};
+use tb_resolve::unknown_fault;
 
-/// The first fault of the names that a file gives: a limit, a name that is given twice, or `main`.
+/// The first fault of the names of a file: a limit, a name that is given twice, one that is unknown, or `main`.
 fn fault(alloc: Global, tree: &Tree) -> Result<Option<(Code, Span)>, AllocError> {
     let items = tree.items.as_slice();
     if let Some(span) = limit_fault(alloc, items)? {
@@ -17,6 +18,9 @@ fn fault(alloc: Global, tree: &Tree) -> Result<Option<(Code, Span)>, AllocError>
     }
     if let Some(span) = repeat_fault(alloc, items)? {
         return Ok(Some((Code::NameGivenTwice, span)));
+    }
+    if let Some(span) = unknown_fault(alloc, items)? {
+        return Ok(Some((Code::UnknownName, span)));
     }
     Ok(main_fault(tree).map(|span| (Code::NoMainFunction, span)))
 }

@@ -11,10 +11,10 @@ use std::alloc::{AllocError, Global};
 use tb_ast::{Attribute, Ident, Item, ItemKind, Meta};
 use tb_types::{Field, IntKind, Name, Ty, TyShape, Types};
 
-/// The name of a struct as a text.
+/// A name as a text. Bytes that are no text, which no source has, count as the empty text.
 #[tactic(auto, using(crate::proofs::Below::shown_text, crate::proofs::Below::shown_no_text))]
-fn shown(bytes: &[u8]) -> &str
-    ensures { result.now ≡ shown bytes.now }
+pub fn shown(bytes: &[u8]) -> &str
+    ensures shown { result.now ≡ shown bytes.now }
 {
     match std::str::from_utf8(bytes) {
         Ok(text) => text,

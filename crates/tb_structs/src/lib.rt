@@ -3,4 +3,4 @@
 
 mod declared;
 
-pub use declared::declared_types;
+pub use declared::{declared_types, shown};
