@@ -1,0 +1,4 @@
+mod Completing
+mod Making
+pub mod Defining
+mod Finishing
