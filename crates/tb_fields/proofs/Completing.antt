@@ -1,12 +1,12 @@
 -- A type is complete where the structs that lie in it are defined, and those are declared.
-use Rattle.std.proofs.Common.{◌≡◌, ℕ, ◌<◌, Bool, true, ◌&&◌, List, [], ◌∷◌, ◌++◌, map, Option, Some, None, is_some, refl, sym, ◌∙◌, ap, subst, IfSome, arith}
+use Rattle.std.proofs.Common.{◌≡◌, ℕ, true, ◌&&◌, List, [], ◌∷◌, ◌++◌, map, Option, Some, None, is_some, refl, sym, ◌∙◌, ap, subst, IfSome}
 use Rattle.std.specs.List.{AllByRecursion, list_all}
 use Rattle.tb_types.specs.declared.shape.Ty.{Ty}
 use Rattle.tb_types.specs.declared.shape.TyShape.{TyShape}
 use Rattle.tb_types.specs.declared.shape.TyShape.TheVariants as shape
 use Rattle.tb_types.specs.declared.item.Field.{Field}
 use Rattle.tb_types.specs.declared.facts.Facts.{Facts}
-use Rattle.tb_types.specs.Table.{TypeTable, IsType, IsDeclared, shape_at, fields_at, fields_of, is_defined, item_named}
+use Rattle.tb_types.specs.Table.{TypeTable, IsType, IsDeclared, shape_at, fields_at, is_defined, item_named}
 use Rattle.tb_types.specs.Trees.{TypeTree, trees_by, tree_in, tree_of, is_plain}
 use Rattle.tb_types.specs.Folded.{node_in, item_in, types_in, types_of}
 use Rattle.tb_types.specs.Facts.{beside, facts_in, facts_by, facts_of, is_complete}

@@ -1,15 +1,14 @@
 -- The structs of a file get their fields, each after those that lie in it.
-use Rattle.std.proofs.Common.{◌≡◌, ℕ, suc, zero, ◌+◌, ◌<◌, ◌≤◌, Bool, true, false, List, [], ◌∷◌, ◌++◌, length, map, take, get_or, slice_get, slice_set, Option, Some, None, is_some, inl, inr, ⊎_elim, refl, ap, subst, sym, ◌∙◌, arith}
-use Rattle.std.specs.List.{AllByRecursion, list_all}
+use Rattle.std.proofs.Common.{◌≡◌, ℕ, suc, zero, ◌<◌, Bool, true, false, List, [], ◌∷◌, ◌++◌, length, slice_get, slice_set, Option, Some, None, is_some, ⊎_elim, refl, ap, subst, sym, ◌∙◌, arith}
+use Rattle.std.specs.List.{AllByRecursion}
 use Rattle.std.specs.Option.{option_map}
 use Rattle.std.proofs.lemmas.Bool.{false≢true, and_parts}
 use Rattle.std.proofs.lemmas.Option.{slice_get_within}
 use Rattle.tb_types.specs.declared.shape.TyShape.{TyShape}
 use Rattle.tb_types.specs.declared.item.Field.{Field as TypeField}
 use Rattle.tb_types.specs.declared.item.Item.{Item as TypeItem}
-use Rattle.tb_types.specs.Table.{TypeTable, IsType, IsDeclared, item_at, fields_of, fields_at, is_defined, with_fields, defining, IsKept, Extends}
+use Rattle.tb_types.specs.Table.{TypeTable, item_at, fields_of, fields_at, is_defined, with_fields, defining, IsKept, Extends}
 use Rattle.tb_types.specs.Trees.{TypeTree, tree_of}
-use Rattle.tb_types.specs.Facts.{is_complete}
 use Rattle.tb_types.specs.Sound.{AreTypes, IsField}
 use Rattle.tb_types.proofs.CallerLemmas.{same_type}
 use Rattle.tb_ast.specs.declared.item.Struct.{Struct}

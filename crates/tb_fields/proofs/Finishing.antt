@@ -1,5 +1,5 @@
 -- From the declared structs of a file to those with their fields.
-use Rattle.std.proofs.Common.{◌≡◌, ℕ, suc, zero, ◌+◌, ◌<◌, ◌≤◌, Bool, true, false, List, [], ◌∷◌, ◌++◌, length, map, slice_get, Option, Some, None, Result, Ok, Err, is_some, refl, ap, subst, sym, ◌∙◌, arith}
+use Rattle.std.proofs.Common.{◌≡◌, ℕ, suc, zero, ◌<◌, Bool, true, List, [], ◌∷◌, ◌++◌, length, map, slice_get, Some, None, Result, Ok, Err, is_some, refl, ap, subst, sym, ◌∙◌, arith}
 use Rattle.std.specs.List.{All, AllByRecursion}
 use Rattle.std.specs.Option.{option_map}
 use Rattle.std.specs.declared.vec.Vec.{Vec}
@@ -8,7 +8,7 @@ use Rattle.std.proofs.lemmas.Bool.{false≢true}
 use Rattle.std.proofs.lemmas.List.{length-map}
 use Rattle.std.proofs.lemmas.List.Elements.{All-nil, All-cons}
 use Rattle.tb_types.specs.declared.item.Item.{Item as TypeItem}
-use Rattle.tb_types.specs.Table.{TypeTable, IsDeclared, fields_of, fields_at, is_defined}
+use Rattle.tb_types.specs.Table.{TypeTable, IsDeclared, fields_of, fields_at}
 use Rattle.tb_ast.specs.declared.item.Item.{Item}
 use Rattle.tb_ast.specs.declared.item.ItemKind.{ItemKind}
 use Rattle.tb_ast.specs.declared.item.ItemKind.TheVariants as item

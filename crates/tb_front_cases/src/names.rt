@@ -1,38 +1,22 @@
-//! The names that files give, in words.
+//! The names of files, in words.
 ghost use Rattle.std.specs.Prelude.{◌≤◌, length};
 
 use crate::tokens::show_refusal;
 use std::alloc::{AllocError, Global};
 use tb_ast::Tree;
 use tb_lex::{LexError, lex};
-use tb_names::{limit_fault, main_fault, repeat_fault};
 use tb_parse::{ParseError, parse};
-use tb_perm::{Code, Span};
-use tb_resolve::unknown_fault;
-
-/// The first fault of the names of a file: a limit, a name that is given twice, one that is unknown, or `main`.
-fn fault(alloc: Global, tree: &Tree) -> Result<Option<(Code, Span)>, AllocError> {
-    let items = tree.items.as_slice();
-    if let Some(span) = limit_fault(alloc, items)? {
-        return Ok(Some((Code::TooManyParts, span)));
-    }
-    if let Some(span) = repeat_fault(alloc, items)? {
-        return Ok(Some((Code::NameGivenTwice, span)));
-    }
-    if let Some(span) = unknown_fault(alloc, items)? {
-        return Ok(Some((Code::UnknownName, span)));
-    }
-    Ok(main_fault(tree).map(|span| (Code::NoMainFunction, span)))
-}
+use tb_resolve::{NameError, resolve};
 
 fn tree_words(alloc: Global, out: &mut String, tree: &Tree) -> Result<(), AllocError> {
-    match fault(alloc, tree)? {
-        Some((code, span)) => show_refusal(alloc, out, code, span),
-        None => out.push_str("named"),
+    match resolve(alloc, tree) {
+        Ok(_) => out.push_str("named"),
+        Err(NameError::Refused(code, span)) => show_refusal(alloc, out, code, span),
+        Err(NameError::Memory) => Err(AllocError),
     }
 }
 
-/// The first fault of a file, up to the names that it gives; `named` where there is none.
+/// The first fault of a file, its names included; `named` where there is none.
 pub fn words(alloc: Global, text: &[u8]) -> Result<String, AllocError>
     requires { length text.now ≤ 1048576 }
 {

@@ -12,7 +12,7 @@ use Rattle.tb_ast.specs.declared.item.Function.{Function}
 use Rattle.tb_names.specs.Names.{name_of, names_of, told}
 use Rattle.tb_names.specs.Limits.{type_parameters_of}
 use Rattle.tb_lookup.specs.declared.file.Entry.{Entry}
-use Rattle.tb_written.specs.Kept.{Keeps, IsTypeIf, tree_if, trees_if, IsFound, IsMore}
+use Rattle.tb_written.specs.Kept.{IsTypeIf, tree_if, trees_if, IsFound, IsMore}
 use Rattle.tb_written.proofs.Keeping.{keeps_itself, kept_twice, next}
 use Rattle.tb_signatures.specs.declared.signature.Signature.{Signature}
 use Rattle.tb_signatures.specs.Signatures.{SignatureOf, told_signature, told_signatures, IsTyped, parameter_tree, output_tree, signature_of, signatures_by, signatures_in, IsSigned, AreSigned, AreSignedBefore}
