@@ -1,5 +1,5 @@
 -- From the parts of a file to the whole.
-use Rattle.std.proofs.Common.{◌≡◌, ℕ, ◌<◌, List, [], Option, Some, None, Result, Ok, Err, refl, ap, subst, sym, ◌∙◌, ⊎_elim, arith}
+use Rattle.std.proofs.Common.{◌≡◌, ℕ, ◌<◌, List, [], Option, Some, None, Err, refl, ap, subst, sym, ◌∙◌, ⊎_elim, arith}
 use Rattle.std.specs.Option.{option_map}
 use Rattle.std.proofs.lemmas.Bool.{cases_lt}
 use Rattle.tb_perm.specs.declared.span.Span.{Span}
@@ -11,7 +11,7 @@ use Rattle.tb_ast.specs.declared.item.Struct.{Struct}
 use Rattle.tb_ast.specs.declared.item.Tree.{Tree}
 use Rattle.tb_names.specs.Names.{first_of}
 use Rattle.tb_names.specs.Main.{main_fault}
-use Rattle.tb_order.specs.Graph.{Graph, Reaches}
+use Rattle.tb_order.specs.Graph.{Graph}
 use Rattle.tb_order.specs.Answer.{HasNoCircle, IsLeastCircle}
 use Rattle.tb_lookup.specs.Files.{file_names}
 use Rattle.tb_written.specs.Kept.{Keeps, AreDeclared}
