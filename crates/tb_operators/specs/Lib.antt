@@ -1,0 +1,4 @@
+pub mod Literals
+pub mod Sides
+pub mod Operators
+pub mod Casts

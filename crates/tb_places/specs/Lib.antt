@@ -1,0 +1,5 @@
+pub mod Derefs
+pub mod Fields
+pub mod Elements
+pub mod Borrows
+pub mod Assignments
