@@ -48,7 +48,9 @@ fn operators(
 fn operators_have_types(rt: HostRuntime) {
     let mut types = Types::new(rt.alloc());
     let scalars = Scalars::of(&mut types).expect(&rt, "memory");
-    let found = operators(rt.alloc(), &types, &scalars).ok().expect(&rt, "memory");
+    let found = operators(rt.alloc(), &types, &scalars)
+        .ok()
+        .expect(&rt, "memory");
     let wanted = [
         Some(Ok(scalars.i32)),
         Some(Ok(scalars.i32)),
@@ -101,7 +103,9 @@ fn places_have_types(rt: HostRuntime) {
     let scalars = Scalars::of(&mut types).expect(&rt, "memory");
     let reference = intern(&mut types, TyShape::Ref(true, scalars.i32)).expect(&rt, "memory");
     let pointer = intern(&mut types, TyShape::Raw(false, scalars.i32)).expect(&rt, "memory");
-    let found = places(rt.alloc(), &mut types, &scalars, pointer).ok().expect(&rt, "memory");
+    let found = places(rt.alloc(), &mut types, &scalars, pointer)
+        .ok()
+        .expect(&rt, "memory");
     let wanted = [
         Some(Ok(reference)),
         Some(Ok(scalars.i32)),
