@@ -1,0 +1,4 @@
+use Rattle.tb_aggregates.proofs.orders.+orders.Given as goal
+
+abbrev pub decreases-orders : goal.decreases-orders
+decreases-orders l = l.left

@@ -1,0 +1,4 @@
+pub mod Orders
+pub mod Tuples
+pub mod Arrays
+pub mod Structs

@@ -1,0 +1,5 @@
+pub mod Settling
+pub mod Leaves
+pub mod Ones
+pub mod Twos
+pub mod Lists
