@@ -6,10 +6,10 @@ use tb_rules::{Scalars, TypeError, Want, fit, intern};
 use tb_thir::{BinaryOperator, BorrowKind, LogicOperator, Node, UnaryOperator};
 use tb_types::{Ty, TyShape, Types};
 
-const SPAN: Span = Span { lo: 1, hi: 3 };
+pub const SPAN: Span = Span { lo: 1, hi: 3 };
 
 /// The type of a node, or the code with which it is refused; none out of memory.
-fn outcome(made: Result<Node, TypeError>) -> Option<Result<Ty, Code>> {
+pub fn outcome(made: Result<Node, TypeError>) -> Option<Result<Ty, Code>> {
     match made {
         Ok(node) => Some(Ok(node.head().ty)),
         Err(TypeError::Refused(code, _)) => Some(Err(code)),
@@ -17,7 +17,7 @@ fn outcome(made: Result<Node, TypeError>) -> Option<Result<Ty, Code>> {
     }
 }
 
-fn number(types: &Types, scalars: &Scalars, value: u64) -> Result<Node, TypeError> {
+pub fn number(types: &Types, scalars: &Scalars, value: u64) -> Result<Node, TypeError> {
     integer(types, scalars, Want::Free, false, value, None, SPAN)
 }
 
